@@ -1,0 +1,50 @@
+-- Each contract determines its result: any two results that it allows for the same arguments are equal.
+-- `Post` is the contract as src/ states it. No function here is lent anything that it can write.
+-- Assumes nothing.
+use mathlib.Core.List.{List}
+use mathlib.Core.Path.{_≡_, sym, _∙_}
+use Prim.Native.Nat.{ℕ}
+use contract.Lifetimes.{Lfts}
+use denote.Triple.Clauses.{AtExit}
+use borrow.Fn.Kinds.{PK, RK, Dens, resT, endedOf, Out}
+use Rattle.bases.proofs.letter.letter.Kinds as letter-kinds
+use Rattle.bases.proofs.letter.letter.Reads as letter
+use Rattle.bases.proofs.letter.all_letters.Kinds as all-letters-kinds
+use Rattle.bases.proofs.letter.all_letters.Reads as all-letters
+use Rattle.bases.proofs.reference.is_reference.Kinds as is-reference-kinds
+use Rattle.bases.proofs.reference.is_reference.Reads as is-reference
+use Rattle.bases.proofs.place.pos_of.Kinds as pos-of-kinds
+use Rattle.bases.proofs.place.pos_of.Reads as pos-of
+use Rattle.bases.proofs.place.place_of.Kinds as place-of-kinds
+use Rattle.bases.proofs.place.place_of.Reads as place-of
+use Rattle.bases.proofs.period.has_period.Kinds as has-period-kinds
+use Rattle.bases.proofs.period.has_period.Reads as has-period
+use Rattle.bases.proofs.period.has_any_period.Kinds as has-any-period-kinds
+use Rattle.bases.proofs.period.has_any_period.Reads as has-any-period
+
+-- Any two results that the contract allows for the same arguments are equal.
+abbrev pub OneResult : (n : ℕ) (ps : List (PK n)) (r : RK n) → Out n ps r → Type 0
+OneResult n ps r post =
+    (κs : Lfts n) (a : Dens κs ps) (z z′ : resT r κs .Denot) (e e′ : AtExit (endedOf n ps r) κs)
+    → post κs a z e → post κs a z′ e′ → z ≡ z′
+
+pub letter-determines : OneResult 0 letter-kinds.ps letter-kinds.r letter.Post
+letter-determines κs a z z′ e e′ p q = p ∙ sym q
+
+pub all-letters-determines : OneResult 1 all-letters-kinds.ps all-letters-kinds.r all-letters.Post
+all-letters-determines κs a z z′ e e′ p q = p ∙ sym q
+
+pub is-reference-determines : OneResult 1 is-reference-kinds.ps is-reference-kinds.r is-reference.Post
+is-reference-determines κs a z z′ e e′ p q = p ∙ sym q
+
+pub pos-of-determines : OneResult 0 pos-of-kinds.ps pos-of-kinds.r pos-of.Post
+pos-of-determines κs a z z′ e e′ p q = p ∙ sym q
+
+pub place-of-determines : OneResult 0 place-of-kinds.ps place-of-kinds.r place-of.Post
+place-of-determines κs a z z′ e e′ p q = p ∙ sym q
+
+pub has-period-determines : OneResult 1 has-period-kinds.ps has-period-kinds.r has-period.Post
+has-period-determines κs a z z′ e e′ p q = p ∙ sym q
+
+pub has-any-period-determines : OneResult 1 has-any-period-kinds.ps has-any-period-kinds.r has-any-period.Post
+has-any-period-determines κs a z z′ e e′ p q = p ∙ sym q

@@ -1,0 +1,4 @@
+pub mod Letter
+pub mod Reference
+pub mod Place
+pub mod Period
