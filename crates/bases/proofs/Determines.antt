@@ -11,6 +11,10 @@ use Rattle.bases.proofs.letter.letter.Kinds as letter-kinds
 use Rattle.bases.proofs.letter.letter.Reads as letter
 use Rattle.bases.proofs.letter.all_letters.Kinds as all-letters-kinds
 use Rattle.bases.proofs.letter.all_letters.Reads as all-letters
+use Rattle.bases.proofs.same.agree.Kinds as agree-kinds
+use Rattle.bases.proofs.same.agree.Reads as agree
+use Rattle.bases.proofs.same.same_bases.Kinds as same-bases-kinds
+use Rattle.bases.proofs.same.same_bases.Reads as same-bases
 use Rattle.bases.proofs.reference.is_reference.Kinds as is-reference-kinds
 use Rattle.bases.proofs.reference.is_reference.Reads as is-reference
 use Rattle.bases.proofs.place.pos_of.Kinds as pos-of-kinds
@@ -33,6 +37,12 @@ letter-determines κs a z z′ e e′ p q = p ∙ sym q
 
 pub all-letters-determines : OneResult 1 all-letters-kinds.ps all-letters-kinds.r all-letters.Post
 all-letters-determines κs a z z′ e e′ p q = p ∙ sym q
+
+pub agree-determines : OneResult 2 agree-kinds.ps agree-kinds.r agree.Post
+agree-determines κs a z z′ e e′ p q = p ∙ sym q
+
+pub same-bases-determines : OneResult 2 same-bases-kinds.ps same-bases-kinds.r same-bases.Post
+same-bases-determines κs a z z′ e e′ p q = p ∙ sym q
 
 pub is-reference-determines : OneResult 1 is-reference-kinds.ps is-reference-kinds.r is-reference.Post
 is-reference-determines κs a z z′ e e′ p q = p ∙ sym q

@@ -3,7 +3,8 @@
 --     letters-at, letters-stop, letters-more, letters-past
 --                                  all are letters from i on: by the byte at i, and at the end
 --     letters-iff                  all are letters exactly if each is
---     bases-length, bases-at       the bases of bytes: as many, and place by place
+--     bases-length, bases-at, bases-drop
+--                                  the bases of bytes: as many, place by place, and of what is left
 -- Assumes nothing.
 use mathlib.Core.Bool.{Bool, true, false, not, _&&_, _||_}
 use mathlib.Core.List.{List, [], _∷_}
@@ -88,6 +89,11 @@ unfolding letterOf among?
 bases-at [] i = refl
 bases-at (b ∷ bs) zero = refl
 bases-at (b ∷ bs) (suc i) = bases-at bs i
+
+pub bases-drop : (n : ℕ) (bs : List ℕ) → basesOf (drop n bs) ≡ drop n (basesOf bs)
+bases-drop zero bs = refl
+bases-drop (suc n) [] = refl
+bases-drop (suc n) (b ∷ bs) = bases-drop n bs
 
 pub letters-iff : (bs : List ℕ) → T (allLetters? bs) ↔ ((i : ℕ) → i < length bs → Letter (getD bs i 0))
 unfolding allLetters?

@@ -1,73 +1,34 @@
 -- Laws of periods.
---     agree-nil, agree-at, agree-iff     two stretches agree: with nothing, from two places on, and place by place
---     period-at, period-stop, period-more, period-past
---                                        a stretch against itself q places on, from i on: by the bases there, and at the end
+--     period-past, period-bases          where q is not below the length; of bytes
 --     period-iff                         the test for a period says that it is one
 --     any-period-at, any-period-zero, any-period-stop, any-period-more
 --                                        some q in 1 .. g is a period: by g, and for g = 0
 --     any-period-iff, no-period-iff      the test for a period in 1 .. g says whether there is one
 --     no-period-long                     a stretch with no period in 1 .. g is longer than g
 -- Assumes nothing.
-use mathlib.Core.Bool.{Bool, true, false, _&&_, _||_}
-use mathlib.Core.List.{List, [], _∷_}
+use mathlib.Core.Bool.{true, false, _||_}
+use mathlib.Core.List.{List}
 use mathlib.Core.Logic.{_↔_, _⊎_, inl, inr, ⊎-elim}
 use mathlib.Core.Path.{_≡_, refl, sym, ap, _∙_}
 use Prim.Native.Nat.{ℕ, zero, suc, _+_, _-_, _≤_, _<_}
 use native.Mathlib.Decide.{decLt}
 use native.Mathlib.Nat.{not-suc-le-zero, le-of-suc-le-suc, eq-or-lt-of-le}
-use native.Mathlib.Numerals.{add-one}
 use native.Mathlib.Omega.{arith}
-use lib.Dec.{T, eqb, eqb→eq}
-use lib.ListN.{length, getD, drop, length-drop, drop-of-length-le}
-use lib.Seq.{drop-cons, getD-drop}
-use Rattle.bases.specs.Letter.{letterOf, basesOf}
-use Rattle.bases.specs.Period.{Period, NoPeriod, agree?, period?, anyPeriod?}
-use borrow.Author.Tests.{eq-eqb, ne-eqb}
-use Rattle.bases.proofs.LetterLaws.{bases-length, bases-at}
-use Rattle.bases.proofs.TestLaws.{both, either, of-true, of-false, is-false}
+use lib.Dec.{T}
+use lib.ListN.{length, getD, drop, length-drop}
+use lib.Seq.{getD-drop}
+use Rattle.bases.specs.Letter.{basesOf}
+use Rattle.bases.specs.Same.{agree?}
+use Rattle.bases.specs.Period.{Period, NoPeriod, period?, anyPeriod?}
+use Rattle.bases.proofs.LetterLaws.{bases-length, bases-drop}
+use Rattle.bases.proofs.SameLaws.{agree-past-second, agree-iff}
+use Rattle.bases.proofs.TestLaws.{either, of-false, is-false}
 
-pub agree-nil : (x : List ℕ) → agree? x [] ≡ true
-unfolding agree?
-agree-nil [] = refl
-agree-nil (a ∷ x) = refl
+pub period-past : (s : List ℕ) (q : ℕ) → length s ≤ q → period? q (basesOf s) ≡ true
+period-past s q h = agree-past-second (basesOf s) (basesOf s) q (rw bases-length h)
 
-pub agree-at : (x y : List ℕ) (i j : ℕ) → i < length x → j < length y → agree? (drop i x) (drop j y) ≡ eqb (getD x i 0) (getD y j 0) && agree? (drop (i + 1) x) (drop (j + 1) y)
-unfolding agree?
-agree-at x y i j h k = rw (add-one i, add-one j, drop-cons x i 0, drop-cons y j 0)
-
-pub period-at : (s : List ℕ) (q i : ℕ) → i + q < length s → agree? (drop i (basesOf s)) (drop (i + q) (basesOf s)) ≡ eqb (letterOf (getD s i 0)) (letterOf (getD s (i + q) 0)) && agree? (drop (i + 1) (basesOf s)) (drop (i + 1 + q) (basesOf s))
-period-at s q i h =
-    let e : i + 1 + q ≡ i + q + 1 = omega arith in
-    rw (e, ← bases-at s i, ← bases-at s (i + q))
-    (agree-at (basesOf s) (basesOf s) i (i + q) (rw bases-length (omega arith)) (rw bases-length h))
-
-pub period-stop : (s : List ℕ) (q i : ℕ) → i + q < length s → (letterOf (getD s i 0) ≡ letterOf (getD s (i + q) 0) → ⊥) → agree? (drop i (basesOf s)) (drop (i + q) (basesOf s)) ≡ false
-period-stop s q i h n = period-at s q i h ∙ rw (ne-eqb _ _ n)
-
-pub period-more : (s : List ℕ) (q i : ℕ) → i + q < length s → letterOf (getD s i 0) ≡ letterOf (getD s (i + q) 0) → agree? (drop i (basesOf s)) (drop (i + q) (basesOf s)) ≡ agree? (drop (i + 1) (basesOf s)) (drop (i + 1 + q) (basesOf s))
-period-more s q i h e = period-at s q i h ∙ rw (eq-eqb _ _ e)
-
-pub period-past : (s : List ℕ) (q i : ℕ) → length s ≤ i + q → agree? (drop i (basesOf s)) (drop (i + q) (basesOf s)) ≡ true
-period-past s q i h =
-    rw (drop-of-length-le (basesOf s) {i = i + q} (rw bases-length h)) (agree-nil (drop i (basesOf s)))
-
-pub agree-iff : (x y : List ℕ) → T (agree? x y) ↔ ((i : ℕ) → i < length x → i < length y → getD x i 0 ≡ getD y i 0)
-unfolding agree?
-agree-iff [] y = (λ t i h k. absurd (not-suc-le-zero h), λ f. tt)
-agree-iff (a ∷ x) [] = (λ t i h k. absurd (not-suc-le-zero k), λ f. tt)
-agree-iff (a ∷ x) (b ∷ y) = (to (agree-iff x y), of (agree-iff x y))
-  where
-    Same : List ℕ → List ℕ → Type 0
-    Same x y = (i : ℕ) → i < length x → i < length y → getD x i 0 ≡ getD y i 0
-
-    to : T (agree? x y) ↔ Same x y → T (eqb a b && agree? x y) → Same (a ∷ x) (b ∷ y)
-    to r t zero h k = eqb→eq a b (both (eqb a b) (agree? x y) .0 t .0)
-    to r t (suc i) h k = r .0 (both (eqb a b) (agree? x y) .0 t .1) i (le-of-suc-le-suc h) (le-of-suc-le-suc k)
-
-    of : T (agree? x y) ↔ Same x y → Same (a ∷ x) (b ∷ y) → T (eqb a b && agree? x y)
-    of r f =
-        both (eqb a b) (agree? x y) .1
-        (of-true (eq-eqb a b (f 0 (omega arith) (omega arith))), r .1 (λ i h k. f (suc i) (omega arith) (omega arith)))
+pub period-bases : (s : List ℕ) (q : ℕ) → agree? (basesOf s) (basesOf (drop q s)) ≡ period? q (basesOf s)
+period-bases s q = rw bases-drop
 
 pub period-iff : (q : ℕ) (y : List ℕ) → T (period? q y) ↔ Period q y
 period-iff q y = (to, of)

@@ -1,4 +1,5 @@
 pub mod Letter
-pub mod Reference
-pub mod Place
 pub mod Period
+pub mod Place
+pub mod Reference
+pub mod Same

@@ -1,6 +1,7 @@
-// Letters, the reference, places in it, and the periods of a stretch of bases: what every crate above reads bases by.
+// Letters, equal bases, the reference, places in it, and the periods of a stretch: what every crate above reads bases by.
 // The contracts cite specs/.
 pub mod letter;
 pub mod period;
 pub mod place;
 pub mod reference;
+pub mod same;

@@ -2,7 +2,7 @@
 ghost use mathlib.Core.Path.{_≡_};
 ghost use Rattle.bases.specs.Letter.{basesOf};
 ghost use Rattle.bases.specs.Period.{period?, anyPeriod?};
-use crate::letter::letter;
+use crate::same::agree;
 
 // Are the stretch's bases q apart always equal? The first two that are not end the walk.
 pub fn has_period(stretch: &[u8], q: usize) -> bool
@@ -11,15 +11,7 @@ pub fn has_period(stretch: &[u8], q: usize) -> bool
     if stretch.len() <= q {
         return true;
     }
-    let pairs = stretch.len() - q;
-    let mut i: usize = 0;
-    while i < pairs {
-        if letter(stretch[i]) != letter(stretch[i + q]) {
-            return false;
-        }
-        i += 1;
-    }
-    true
+    agree(stretch, &stretch[q..])
 }
 
 // Is some q with 1 <= q <= g a period of the stretch? From g down: a stretch no longer than g is told at once.
