@@ -1,0 +1,188 @@
+//! The card's calls. Each judges in document 01's order: 1; 2; list 1; list 2; 17; 16; 18.
+//!
+//! A refused call writes nothing; all writing stands behind the last judgement.
+
+use crate::best_pruned::best_pruned;
+use crate::choice::Choice;
+use crate::clusters::{clusters, lists_of, Cluster, DECIDED_MOST};
+use crate::entry::Entry;
+use crate::list::{self, RECORDS_MOST};
+use crate::merged::{merged, Item, Lists};
+use crate::reference;
+use crate::refusal::*;
+use crate::written::written;
+
+/// As many entries, and so clusters, as two lists can have.
+pub const ENTRIES_MOST: usize = 2 * RECORDS_MOST;
+
+const UNDECIDED: u8 = b'?';
+
+/// What is told of an asked cluster.
+#[derive(Clone, Copy, Debug, PartialEq, Eq)]
+pub enum Marked {
+    Score(u32),
+    Undecided,
+}
+
+/// An allele, shown as a part of the reference or of the list's text.
+#[derive(Clone, Copy, Debug, PartialEq, Eq)]
+pub enum Shown {
+    Reference { start: usize, length: usize },
+    Text { start: usize, length: usize },
+}
+
+impl Shown {
+    /// The bytes shown, where `reference` and `text` are those of the call.
+    pub fn bytes<'a>(self, reference: &'a [u8], text: &'a [u8]) -> &'a [u8] {
+        match self {
+            Shown::Reference { start, length } => &reference[start..start + length],
+            Shown::Text { start, length } => &text[start..start + length],
+        }
+    }
+}
+
+/// Writes one record a cluster to the plan's first records and returns their number.
+/// The plan's records behind them are unchanged.
+pub fn plan(
+    reference: &[u8],
+    name: &[u8],
+    first: &[u8],
+    second: &[u8],
+    plan: &mut [Cluster],
+) -> Result<u32, Refusal> {
+    reference::judge(reference)?;
+    judge_room(plan.len(), ENTRIES_MOST)?;
+    let both = read_both(reference, name, first, second)?;
+    let clusters = clusters(reference, both.each_ref().map(Vec::as_slice));
+    plan[..clusters.len()].copy_from_slice(&clusters);
+    Ok(clusters.len() as u32)
+}
+
+/// Writes the marks of cluster `cluster` of the plan and returns its score, or that it is undecided.
+/// All other marks are unchanged.
+pub fn mark(
+    reference: &[u8],
+    name: &[u8],
+    first: &[u8],
+    second: &[u8],
+    plan: &[Cluster],
+    cluster: usize,
+    marks: &mut [u8],
+) -> Result<Marked, Refusal> {
+    reference::judge(reference)?;
+    judge_room(plan.len(), ENTRIES_MOST)?;
+    judge_room(marks.len(), ENTRIES_MOST)?;
+    let both = read_both(reference, name, first, second)?;
+    let lists = both.each_ref().map(Vec::as_slice);
+    let clusters = clusters(reference, lists);
+    if plan[..clusters.len()] != clusters {
+        return Err(Refusal::of_call(NOT_THE_PLAN));
+    }
+    let asked = clusters.get(cluster).ok_or(Refusal::of_call(NO_CLUSTER))?;
+    Ok(mark_cluster(reference, lists, &merged(lists), *asked, marks))
+}
+
+/// Leaves what `plan`, and then `mark` of each cluster, leave. Returns the number of clusters and
+/// the score summed over the decided ones.
+pub fn mark_all(
+    reference: &[u8],
+    name: &[u8],
+    first: &[u8],
+    second: &[u8],
+    plan: &mut [Cluster],
+    marks: &mut [u8],
+) -> Result<(u32, u32), Refusal> {
+    reference::judge(reference)?;
+    judge_room(plan.len(), ENTRIES_MOST)?;
+    judge_room(marks.len(), ENTRIES_MOST)?;
+    let both = read_both(reference, name, first, second)?;
+    let lists = both.each_ref().map(Vec::as_slice);
+    let clusters = clusters(reference, lists);
+    let items = merged(lists);
+    plan[..clusters.len()].copy_from_slice(&clusters);
+    let mut total = 0;
+    for &cluster in &clusters {
+        if let Marked::Score(score) = mark_cluster(reference, lists, &items, cluster, marks) {
+            total += score;
+        }
+    }
+    Ok((clusters.len() as u32, total))
+}
+
+/// Writes the list in normal form and returns the number of bytes written.
+/// The room behind them is unchanged.
+pub fn normal(
+    reference: &[u8],
+    name: &[u8],
+    text: &[u8],
+    room: &mut [u8],
+) -> Result<usize, Refusal> {
+    reference::judge(reference)?;
+    judge_room(room.len(), text.len())?;
+    let list = list::read(reference, name, 1, text)?;
+    let written = written(reference, text, &list);
+    room[..written.len()].copy_from_slice(&written);
+    Ok(written.len())
+}
+
+/// Shows allele number `allele` of entry number `entry`: 0 in the reference, 1 or 2 in the text.
+pub fn allele(
+    reference: &[u8],
+    name: &[u8],
+    text: &[u8],
+    entry: usize,
+    allele: usize,
+) -> Result<Shown, Refusal> {
+    reference::judge(reference)?;
+    let list = list::read(reference, name, 1, text)?;
+    let no_allele = Refusal::of_call(NO_ALLELE);
+    let record = list.records.get(entry).ok_or(no_allele)?;
+    if allele == 0 {
+        let (start, length) = (record.entry.start(), record.entry.reference.len());
+        return Ok(Shown::Reference { start, length });
+    }
+    let part = record.alts.get(allele - 1).ok_or(no_allele)?;
+    let (start, length) = (part.start, part.length);
+    Ok(Shown::Text { start, length })
+}
+
+/// Row 2: the lent room is below what the call needs.
+fn judge_room(lent: usize, needed: usize) -> Result<(), Refusal> {
+    if lent < needed {
+        return Err(Refusal::of_call(SMALL_ROOM));
+    }
+    Ok(())
+}
+
+/// The entries of list 1 and of list 2, judged in this order.
+fn read_both(
+    reference: &[u8],
+    name: &[u8],
+    first: &[u8],
+    second: &[u8],
+) -> Result<[Vec<Entry>; 2], Refusal> {
+    let first = list::read(reference, name, 1, first)?;
+    let second = list::read(reference, name, 2, second)?;
+    Ok([first.entries(), second.entries()])
+}
+
+/// Writes the marks of one cluster, and no other.
+fn mark_cluster(
+    reference: &[u8],
+    lists: Lists,
+    items: &[Item],
+    cluster: Cluster,
+    marks: &mut [u8],
+) -> Marked {
+    let first = cluster.first as usize;
+    let marks = &mut marks[first..first + cluster.count as usize];
+    if marks.len() > DECIDED_MOST {
+        marks.fill(UNDECIDED);
+        return Marked::Undecided;
+    }
+    let best = best_pruned(reference, lists_of(lists, items, cluster));
+    for (mark, choice) in marks.iter_mut().zip(best.choices) {
+        *mark = Choice::mark(choice);
+    }
+    Marked::Score(best.score)
+}

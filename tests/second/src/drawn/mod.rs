@@ -1,0 +1,15 @@
+//! What is drawn at random, for the tests of this package and for `drive`.
+//!
+//! - `random` gives numbers from a seed, `lists` makes texts of short records
+//! - `world` draws small references with two lists, of which `rewritten` makes the second from the first
+//! - `list` draws one list in all its variety, `sizes` one of the sizes where the rules change
+//! - `fault` breaks a chosen row of the table in such a list, `damage` breaks any text anywhere
+
+pub mod damage;
+pub mod fault;
+pub mod list;
+pub mod lists;
+pub mod random;
+pub mod rewritten;
+pub mod sizes;
+pub mod world;

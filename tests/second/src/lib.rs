@@ -1,0 +1,45 @@
+//! The comparison card, written a second time from document 01 alone.
+//!
+//! It exists to be compared with: each rule stands once, in document 01's words, and the two places
+//! that matter most, the best pair and the normal form, stand twice, by definition and by a search
+//! that is quick. The tests hold the two ways against each other.
+//!
+//! - the calls: `card` (plan, mark, mark_all, normal, allele), `programs` (compare, normalise)
+//! - what is turned away: `refusal`
+//! - reading: `reference`, `part`, `entry`, `record`, `list`
+//! - the normal form: `normal_form` (definition), `normal_loop` (shift and trim), `written` (the text)
+//! - matching: `choice`, `donor`, `merged`, `best` (every pair of choices), `best_pruned`
+//! - clusters: `gap` (where to cut), `clusters`
+//!
+//! Beside the rules: `drawn` (what is drawn at random for tests) and `drive` (drawn cases, called in
+//! the card's C library and held to the calls here).
+
+#![forbid(unsafe_code)]
+
+pub mod best;
+pub mod best_pruned;
+pub mod card;
+pub mod choice;
+pub mod clusters;
+pub mod donor;
+pub mod drawn;
+pub mod drive;
+pub mod entry;
+pub mod gap;
+pub mod list;
+pub mod merged;
+pub mod normal_form;
+pub mod normal_loop;
+pub mod part;
+pub mod programs;
+pub mod record;
+pub mod reference;
+pub mod refusal;
+pub mod written;
+
+pub use card::{allele, mark, mark_all, normal, plan, Marked, Shown};
+pub use clusters::Cluster;
+pub use entry::Entry;
+pub use list::{read, List};
+pub use programs::{compare, normalise};
+pub use refusal::Refusal;

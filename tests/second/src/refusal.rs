@@ -1,0 +1,45 @@
+//! What is turned away: the table of document 01, one name a row.
+
+/// The three numbers that a refused call answers with, and its only effect.
+#[derive(Clone, Copy, Debug, PartialEq, Eq)]
+pub struct Refusal {
+    pub number: u32,
+    pub list: u32,
+    pub line: u32,
+}
+
+pub const WRONG_REFERENCE: u32 = 1;
+pub const SMALL_ROOM: u32 = 2;
+pub const WRONG_TEXT: u32 = 3;
+pub const LONG_LINE: u32 = 4;
+pub const WRONG_HEADER: u32 = 5;
+pub const NOT_TEN_FIELDS: u32 = 6;
+pub const WRONG_CHROM: u32 = 7;
+pub const WRONG_POS: u32 = 8;
+pub const WRONG_REF: u32 = 9;
+pub const WRONG_ALT: u32 = 10;
+pub const WRONG_GENOTYPE: u32 = 11;
+pub const GENOTYPE_ZERO: u32 = 12;
+pub const NOT_THE_REFERENCE: u32 = 13;
+pub const POS_FALLS: u32 = 14;
+pub const ONE_RECORD_TOO_MANY: u32 = 15;
+pub const NO_CLUSTER: u32 = 16;
+pub const NOT_THE_PLAN: u32 = 17;
+pub const NO_ALLELE: u32 = 18;
+
+impl Refusal {
+    /// Rows 1, 2, 16, 17 and 18 concern the call: list and line are 0.
+    pub fn of_call(number: u32) -> Refusal {
+        Refusal { number, list: 0, line: 0 }
+    }
+
+    /// Row 3 concerns a list's whole text: line is 0.
+    pub fn of_text(number: u32, list: u32) -> Refusal {
+        Refusal { number, list, line: 0 }
+    }
+
+    /// Rows 4 to 15 concern one line, counted from 1.
+    pub fn of_line(number: u32, list: u32, line: u32) -> Refusal {
+        Refusal { number, list, line }
+    }
+}

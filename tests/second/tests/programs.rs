@@ -1,0 +1,68 @@
+//! What the programs print, and the files they read.
+
+mod common;
+
+use common::calls::Case;
+use common::lists::text;
+use std::path::PathBuf;
+use std::process::Command;
+
+#[test]
+fn entries_stand_in_merged_order_with_pos_as_read() {
+    let mut first = vec!["2 A C 0/1"];
+    first.extend(["10 A C 1/1"; 13]);
+    let case = Case::new("GACGTTGCGAT", &first, &["1 GA GC 1/0", "2 A T 1/1", "11 T G 1/1"]);
+    let mut expected = String::from("list\tPOS\tcluster\tmark\n");
+    expected += "2\t1\t0\t+\n1\t2\t0\t-\n2\t2\t0\t0\n";
+    expected += &"1\t10\t1\t?\n".repeat(13);
+    expected += "2\t11\t2\t0\n";
+    expected += "total\t2\t2\t13\t2\n";
+    assert_eq!(case.printed(), expected);
+}
+
+#[test]
+fn a_refusal_is_the_only_line() {
+    let good = text(&["2 C T 0/1"]);
+    let bad = text(&["2 C T 0/1", "1 G T 0/0"]);
+    assert_eq!(second::compare(b"GCA\n", &good, &bad), b"refused\t12\t2\t4\n");
+    assert_eq!(second::compare(b"GCA\n", &bad, &good), b"refused\t12\t1\t4\n");
+    assert_eq!(second::compare(b"GCA\n", b"", b""), b"refused\t3\t1\t0\n");
+    assert_eq!(second::normalise(b"GCA\n", &bad), b"refused\t12\t1\t4\n");
+}
+
+/// A new directory with some of the three files.
+fn directory(name: &str, files: &[(&str, &[u8])]) -> PathBuf {
+    let directory = std::env::temp_dir().join(format!("second-{}-{name}", std::process::id()));
+    std::fs::create_dir_all(&directory).expect("a new directory");
+    for (file, bytes) in files {
+        std::fs::write(directory.join(file), bytes).expect("a file");
+    }
+    directory
+}
+
+fn printed(program: &str, directory: &PathBuf) -> String {
+    let mut command = Command::new(env!("CARGO_BIN_EXE_second"));
+    let output = command.arg(program).arg(directory).output().expect("it runs");
+    assert!(output.status.success());
+    String::from_utf8(output.stdout).expect("ASCII")
+}
+
+#[test]
+fn the_binary_reads_the_files_of_a_directory() {
+    let (first, second) = (text(&["2 CAT C 1/1"]), text(&["4 TAT T 1/1"]));
+    let files: [(&str, &[u8]); 3] =
+        [("reference.txt", b"GCATATG\n"), ("first.vcf", &first), ("second.vcf", &second)];
+    let all = directory("all", &files);
+    let table = "list\tPOS\tcluster\tmark\n1\t2\t0\t+\n2\t4\t0\t+\ntotal\t2\t0\t0\t2\n";
+    assert_eq!(printed("compare", &all), table);
+    assert_eq!(printed("normalise", &all).as_bytes(), first);
+    let no_second = directory("no-second", &files[..2]);
+    assert_eq!(printed("compare", &no_second), "refused\t3\t2\t0\n");
+    let no_first = directory("no-first", &files[..1]);
+    assert_eq!(printed("normalise", &no_first), "refused\t3\t1\t0\n");
+    let none = directory("none", &[]);
+    assert_eq!(printed("compare", &none), "refused\t1\t0\t0\n");
+    for directory in [all, no_second, no_first, none] {
+        std::fs::remove_dir_all(directory).expect("removed");
+    }
+}

@@ -1,0 +1,90 @@
+//! The normal text: what stays of a line, the order of lines, and reading it back.
+
+mod common;
+
+use common::calls::normal;
+use common::lists::{all_lines, raw, text, text_of, COLUMN_LINE, NAME, VERSION_LINE};
+use common::random::Random;
+use common::seen::Seen;
+use common::world::World;
+use second::normal_form::normal_form;
+use second::Entry;
+
+#[test]
+fn random_lists_read_back_as_the_normal_forms_in_order() {
+    let mut seen = Seen::default();
+    for seed in 400_000..403_000 {
+        let mut random = Random::new(seed);
+        let world = World::new(&mut random, 10);
+        for list in &world.lists {
+            let read = text_of(list);
+            let written = normal(&world.reference, NAME, &read).expect("accepted");
+            let back = second::read(&world.reference, NAME, 1, &written).expect("read back");
+            let forms: Vec<Entry> =
+                list.iter().map(|entry| normal_form(&world.reference, entry)).collect();
+            let mut expected = forms.clone();
+            expected.sort_by_key(|form| form.pos);
+            assert_eq!(back.entries(), expected);
+            assert_eq!(written, text_of(&expected));
+            assert_eq!(normal(&world.reference, NAME, &written), Ok(written.clone()));
+            assert!(written.len() <= read.len());
+            let alike = |two: &[Entry]| two[0].pos == two[1].pos && two[0] != two[1];
+            seen.note("another order", forms != expected);
+            seen.note("equal POS", expected.windows(2).any(alike));
+            seen.note("shorter", written.len() < read.len());
+            seen.note("the same text", written == read);
+        }
+    }
+    seen.assert_each(300);
+}
+
+#[test]
+fn equal_pos_stays_in_the_order_read() {
+    // The last two records move to POS 2, behind those that were read before them.
+    let read = text(&["2 C T 0/1", "2 C G 1/1", "4 TAT T 1/1", "6 T TAT 0/1"]);
+    let written = text(&["2 C T 0/1", "2 C G 1/1", "2 CAT C 1/1", "2 C CAT 0/1"]);
+    assert_eq!(normal(b"GCATATG", NAME, &read), Ok(written));
+    // A record that moves left goes before one that was read before it and stays.
+    let read = text(&["3 A T 0/1", "4 TAT T 1/1"]);
+    let written = text(&["2 CAT C 1/1", "3 A T 0/1"]);
+    assert_eq!(normal(b"GCATATG", NAME, &read), Ok(written));
+    // A record that is trimmed goes behind one that was read later.
+    let read = text(&["1 GC GT 0/1", "1 G T 1/1"]);
+    let written = text(&["1 G T 1/1", "2 C T 0/1"]);
+    assert_eq!(normal(b"GCATATG", NAME, &read), Ok(written));
+}
+
+#[test]
+fn only_pos_ref_and_alt_are_replaced() {
+    let record = |pos: &str, reference: &str, alt: &str| {
+        let carried = ["\u{e9} #;", "1e-9", "q10;,", "A=\0\r", "GT:X:", "2|1:0/0,:\u{1}"];
+        let [id, quality, filter, info, format, sample] = carried;
+        let fields = ["chr1", pos, id, reference, alt, quality, filter, info, format, sample];
+        fields.join("\t").into_bytes()
+    };
+    let header = || {
+        let column = COLUMN_LINE.replace("sample", " # name\r");
+        [VERSION_LINE, "##", "##x\ty", "####", &column].map(|line| line.as_bytes().to_vec())
+    };
+    let with = |line: Vec<u8>| all_lines(header().into_iter().chain([line]));
+    let read = with(record("4", "TAT", "T,TATAT"));
+    let written = with(record("2", "CAT", "C,CATAT"));
+    assert_eq!(normal(b"GCATATG", NAME, &read), Ok(written));
+}
+
+#[test]
+fn pos_may_gain_or_lose_a_digit() {
+    let line = common::lists::line;
+    let reference = format!("{}CG", "A".repeat(10));
+    let read = raw([line("9 AACG AACT 1/1"), line("12 G GG 1/1")].map(String::into_bytes));
+    let written = raw([line("11 C CG 1/1"), line("12 G T 1/1")].map(String::into_bytes));
+    assert_eq!(normal(reference.as_bytes(), NAME, &read), Ok(written));
+    let read = text(&["10 A AA 1/1"]);
+    assert_eq!(normal(reference.as_bytes(), NAME, &read), Ok(text(&["1 A AA 1/1"])));
+}
+
+#[test]
+fn normalise_prints_the_normal_text() {
+    let read = text(&["4 TAT T 1/1"]);
+    assert_eq!(second::normalise(b"GCATATG\n", &read), text(&["2 CAT C 1/1"]));
+}
