@@ -26,6 +26,12 @@ use Rattle.bases.proofs.period.has_period.Reads as has-period
 use Rattle.bases.proofs.period.has_any_period.Kinds as has-any-period-kinds
 use Rattle.bases.proofs.period.has_any_period.Reads as has-any-period
 
+-- What is seen of any two results that the contract allows for the same arguments is equal.
+abbrev pub OneSeen : (n : ℕ) (ps : List (PK n)) (r : RK n) → Out n ps r → (A : Type 0) → ((κs : Lfts n) → resT r κs .Denot → A) → Type 0
+OneSeen n ps r post A see =
+    (κs : Lfts n) (a : Dens κs ps) (z z′ : resT r κs .Denot) (e e′ : AtExit (endedOf n ps r) κs)
+    → post κs a z e → post κs a z′ e′ → see κs z ≡ see κs z′
+
 -- Any two results that the contract allows for the same arguments are equal.
 abbrev pub OneResult : (n : ℕ) (ps : List (PK n)) (r : RK n) → Out n ps r → Type 0
 OneResult n ps r post =

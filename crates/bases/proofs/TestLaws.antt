@@ -1,7 +1,7 @@
 -- Laws of tests: `T t` says that the test t holds.
 --     of-true, of-false     what a test's value says
 --     is-true, is-false     a test's value from what it says
---     both, either          a test made of two
+--     both, either, neither a test made of two
 -- Assumes nothing.
 use mathlib.Core.Bool.{Bool, true, false, _&&_, _||_}
 use mathlib.Core.Logic.{_↔_, _⊎_, inl, inr, ⊎-elim}
@@ -29,3 +29,7 @@ both false t = (λ h. absurd h, λ h. h .0)
 pub either : (s t : Bool) → T (s || t) ↔ (T s ⊎ T t)
 either true t = (λ h. inl tt, λ h. tt)
 either false t = (λ h. inr h, ⊎-elim (λ h. absurd h) (λ h. h))
+
+pub neither : (s t : Bool) → s || t ≡ false → (s ≡ false) × (t ≡ false)
+neither true t e = absurd (of-false e tt)
+neither false t e = (refl, e)

@@ -1,8 +1,19 @@
 // Equal bases: the only code that compares bytes of a reference or of an allele.
 ghost use mathlib.Core.Path.{_≡_};
-ghost use Rattle.bases.specs.Letter.{basesOf};
+ghost use lib.Dec.{eqb};
+ghost use Rattle.bases.specs.Letter.{letterOf, basesOf};
 ghost use Rattle.bases.specs.Same.{agree?, sameBases?};
 use crate::letter::letter;
+
+// Are the two bytes the same base? Two equal bytes are told at once.
+fn is_same(x: u8, y: u8) -> bool
+    ensures { λ r. ⌜ r ≡ eqb (letterOf x) (letterOf y) ⌝ }
+{
+    if x == y {
+        return true;
+    }
+    letter(x) == letter(y)
+}
 
 // Are the bases of the two equal, as far as both go? The first two that differ end the walk.
 pub fn agree(a: &[u8], b: &[u8]) -> bool
@@ -13,7 +24,7 @@ pub fn agree(a: &[u8], b: &[u8]) -> bool
         if b.len() <= i {
             return true;
         }
-        if letter(a[i]) != letter(b[i]) {
+        if !is_same(a[i], b[i]) {
             return false;
         }
         i += 1;

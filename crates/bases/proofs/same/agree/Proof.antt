@@ -4,6 +4,7 @@ use mathlib.Core.Path.{_≡_, refl, sym, _∙_}
 use Prim.Native.Nat.{_≤_, _-_}
 use native.Mathlib.Omega.{arith}
 use borrow.Author.Needs.{needs}
+use borrow.Author.Tests.{eqb-true, eqb-false, not-true, not-false}
 use lib.ListN.{length, drop}
 use Rattle.bases.specs.Letter.{basesOf}
 use Rattle.bases.specs.Same.{agree?}
@@ -23,30 +24,28 @@ loop-holds c = (omega arith, refl)
 
 returns : tie.Need-returns Inv-loop μ-loop
 returns c =
-    let x = basesOf (c .before .before .before .before .before .args .a .now) in
-    let y = basesOf (c .before .before .before .before .before .args .b .now) in
+    let a = c .before .before .before .before .before .args .a .now in
+    let b = c .before .before .before .before .before .args .b .now in
     let i = c .before .before .loop .i in
-    cc (agree-past-second (drop i x) y i (rw bases-length (c .if1 .taken)))
+    cc (agree-past-second (drop i (basesOf a)) (basesOf b) i (rw bases-length (c .if1 .taken)))
 
-shared-slice-read-letter : tie.Need-shared-slice-read-letter Inv-loop μ-loop
-shared-slice-read-letter c = omega arith
+shared-slice-read-is-same : tie.Need-shared-slice-read-is-same Inv-loop μ-loop
+shared-slice-read-is-same c = omega arith
 
-letter-requires : tie.Need-letter-requires Inv-loop μ-loop
-letter-requires c κs = search needs
+shared-slice-read-is-same-2 : tie.Need-shared-slice-read-is-same-2 Inv-loop μ-loop
+shared-slice-read-is-same-2 c = omega arith
 
-shared-slice-read-letter-2 : tie.Need-shared-slice-read-letter-2 Inv-loop μ-loop
-shared-slice-read-letter-2 c = omega arith
-
-letter-requires-2 : tie.Need-letter-requires-2 Inv-loop μ-loop
-letter-requires-2 c κs = search needs
+is-same-requires : tie.Need-is-same-requires Inv-loop μ-loop
+is-same-requires c κs = search needs
 
 returns-2 : tie.Need-returns-2 Inv-loop μ-loop
 returns-2 c =
-    let a = c .before .before .before .before .before .before .before .before .before .before .args .a .now in
-    let b = c .before .before .before .before .before .before .before .before .before .before .args .b .now in
-    let i = c .before .before .before .before .before .before .before .loop .i in
+    let a = c .before .before .before .before .before .before .before .before .before .args .a .now in
+    let b = c .before .before .before .before .before .before .before .before .before .args .b .now in
+    let i = c .before .before .before .before .before .before .loop .i in
+    let n = eqb-false _ _ (sym (c .before .is-same .ensures) ∙ not-true _ (c .if2 .taken)) in
     cc (agree-stop (basesOf a) (basesOf b) i (rw bases-length (omega arith)) (rw bases-length (omega arith))
-    (λ e. c .if2 .taken (cc (bases-at a i, bases-at b i))))
+    (λ e. n (sym (bases-at a i) ∙ e ∙ bases-at b i)))
 
 add-i : tie.Need-add-i Inv-loop μ-loop
 add-i c = omega arith
@@ -56,11 +55,12 @@ loop-less c = omega arith
 
 loop-again : tie.Need-loop-again Inv-loop μ-loop
 loop-again c =
-    let a = c .before .before .before .before .before .before .before .before .before .before .args .a .now in
-    let b = c .before .before .before .before .before .before .before .before .before .before .args .b .now in
-    let i = c .before .before .before .before .before .before .before .loop .i in
+    let a = c .before .before .before .before .before .before .before .before .before .args .a .now in
+    let b = c .before .before .before .before .before .before .before .before .before .args .b .now in
+    let i = c .before .before .before .before .before .before .loop .i in
+    let e = eqb-true _ _ (sym (c .before .is-same .ensures) ∙ not-false _ (c .if2 .left)) in
     let more = agree-more (basesOf a) (basesOf b) i (rw bases-length (omega arith)) (rw bases-length (omega arith))
-    (cc (bases-at a i, bases-at b i)) in
+    (bases-at a i ∙ e ∙ sym (bases-at b i)) in
     (omega arith, cc)
 
 returns-3 : tie.Need-returns-3 Inv-loop μ-loop
@@ -78,10 +78,9 @@ agree-spec =
     μ-loop
     loop-holds
     returns
-    shared-slice-read-letter
-    letter-requires
-    shared-slice-read-letter-2
-    letter-requires-2
+    shared-slice-read-is-same
+    shared-slice-read-is-same-2
+    is-same-requires
     returns-2
     add-i
     loop-less
