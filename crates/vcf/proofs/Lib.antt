@@ -1,0 +1,16 @@
+pub mod AcceptedLaws
+pub mod AlleleLaws
+pub mod BytesLaws
+pub mod Determines
+pub mod EntryLaws
+pub mod FieldLaws
+pub mod GenotypeLaws
+pub mod JudgeLaws
+pub mod ListLaws
+pub mod PartLaws
+pub mod PosLaws
+pub mod RecordLaws
+pub mod RecordLineLaws
+pub mod RowLaws
+pub mod StageLaws
+pub mod ToldLaws

@@ -1,0 +1,94 @@
+-- Laws of a record's rows.
+--     format-wrong, format-right     row 11, by FORMAT
+--     Copies, copies-right           what a genotype that is not wrong is
+--     genotype-right                 the same of a line on which row 11 does not hold
+--     no-alt                         its copies are 0 where its digits are
+--     off-past, off-within           row 13, by whether REF runs past the reference
+--     record-ten                     a line on which no row holds has ten fields
+--     readable-ten, readable-right   what a line has off which an entry can be read
+-- Assumes nothing.
+use mathlib.Core.Bool.{Bool, true, false, not, _&&_, _||_}
+use mathlib.Core.List.{List}
+use mathlib.Core.Path.{_≡_, refl, sym, subst, _∙_}
+use Prim.Native.Nat.{ℕ, _+_, _-_, _≤_, _<_}
+use native.Mathlib.Decide.{ℕ-discrete}
+use native.Mathlib.Omega.{arith}
+use borrow.Author.Tests.{lt-leb, le-leb, eq-eqb, ne-eqb, not-false}
+use lib.Dec.{T, eqb, leb, eqb→eq, leb→le, T-not}
+use lib.ListN.{length, getD, take, drop}
+use Rattle.bases.specs.Same.{sameBases?}
+use Rattle.bases.proofs.TestLaws.{both, of-true, is-false}
+use Rattle.vcf.specs.Allele.{altCount}
+use Rattle.vcf.specs.Entry.{readable?}
+use Rattle.vcf.specs.Field.{field, tenFields?}
+use Rattle.vcf.specs.Genotype.{formatWrong?, separator?, digitTo?, copiesWrong?, copy0, copy1}
+use Rattle.vcf.specs.Pos.{digit?}
+use Rattle.vcf.specs.Record.{genotypeOn, genotypeWrong?, offReference?, recordRows}
+use Rattle.vcf.specs.Row.{firstRow}
+use Rattle.vcf.proofs.RowLaws.{none-holds, record-rows-numbered}
+
+pub format-wrong : (l : List ℕ) → formatWrong? (field 8 l) ≡ true → genotypeWrong? l ≡ true
+format-wrong l e = rw e
+
+pub format-right : (l : List ℕ) → formatWrong? (field 8 l) ≡ false → genotypeWrong? l ≡ copiesWrong? (altCount (field 4 l)) (genotypeOn l)
+format-right l e = rw e
+
+-- A genotype beside n ALTs: three bytes, of which the first and the last are digits.
+pub record Copies (g : List ℕ) : Type 0 where
+  pub long : length g ≡ 3
+  pub first : 48 ≤ getD g 0 0
+  pub last : 48 ≤ getD g 2 0
+
+digit-from : (n b : ℕ) → T (digitTo? n b) → 48 ≤ b
+digit-from n b t = leb→le 48 b (both (leb 48 b) (leb b 57) .0 (both (digit? b) (leb (b - 48) n) .0 t .0) .0)
+
+pub copies-right : (n : ℕ) (g : List ℕ) → copiesWrong? n g ≡ false → Copies g
+unfolding copiesWrong?
+copies-right n g e =
+    let s : Bool = separator? (getD g 1 0) && digitTo? n (getD g 2 0) in
+    let t : Bool = digitTo? n (getD g 0 0) && s in
+    let a = both (eqb (length g) 3) t .0 (of-true {t = eqb (length g) 3 && t} (not-false (eqb (length g) 3 && t) e)) in
+    let b = both (digitTo? n (getD g 0 0)) s .0 (a .1) in
+    let d = both (separator? (getD g 1 0)) (digitTo? n (getD g 2 0)) .0 (b .1) in
+    record {
+      long = eqb→eq _ _ (a .0);
+      first = digit-from n (getD g 0 0) (b .0);
+      last = digit-from n (getD g 2 0) (d .1);
+    }
+
+pub genotype-right : (l : List ℕ) → genotypeWrong? l ≡ false → Copies (genotypeOn l)
+genotype-right l e = go (formatWrong? (field 8 l)) refl
+  where
+    go : (t : Bool) → formatWrong? (field 8 l) ≡ t → Copies (genotypeOn l)
+    go true f = let z : true ≡ false = sym (format-wrong l f) ∙ e in absurd (subst T z tt)
+    go false f = copies-right (altCount (field 4 l)) (genotypeOn l) (sym (format-right l f) ∙ e)
+
+-- a digit is 48 exactly if its value is 0
+zero-digit : (b : ℕ) → 48 ≤ b → eqb b 48 ≡ eqb (b - 48) 0
+zero-digit b h = go (ℕ-discrete b 48)
+  where
+    go : Dec (b ≡ 48) → eqb b 48 ≡ eqb (b - 48) 0
+    go (yes e) = eq-eqb b 48 e ∙ sym (eq-eqb (b - 48) 0 (omega arith))
+    go (no n) = ne-eqb b 48 n ∙ sym (ne-eqb (b - 48) 0 (λ e. n (omega arith)))
+
+pub no-alt : (g : List ℕ) → Copies g → eqb (getD g 0 0) 48 && eqb (getD g 2 0) 48 ≡ eqb (copy0 g) 0 && eqb (copy1 g) 0
+no-alt g w = rw (zero-digit (getD g 0 0) (w .first), zero-digit (getD g 2 0) (w .last))
+
+pub off-past : (r : List ℕ) (pos : ℕ) (a : List ℕ) → length r < pos - 1 + length a → offReference? r pos a ≡ true
+off-past r pos a h = rw (lt-leb _ _ h)
+
+pub off-within : (r : List ℕ) (pos : ℕ) (a : List ℕ) → pos - 1 + length a ≤ length r → offReference? r pos a ≡ not (sameBases? a (take (length a) (drop (pos - 1) r)))
+off-within r pos a h = rw (le-leb _ _ h)
+
+-- where no row of a record's line holds, the line has its ten fields
+pub record-ten : (r name : List ℕ) (records last : ℕ) (l : List ℕ) → firstRow (recordRows r name records last l) ≡ 0 → T (tenFields? l)
+record-ten r name records last l e =
+    let none = none-holds (recordRows r name records last l) (record-rows-numbered r name records last l) e in
+    of-true {t = tenFields? l} (not-false (tenFields? l) (none .1 .1 .1 .0))
+
+-- a line off which an entry can be read has ten fields and a genotype
+pub readable-ten : (l : List ℕ) → T (readable? l) → T (tenFields? l)
+readable-ten l t = both (tenFields? l) (not (genotypeWrong? l)) .0 t .0
+
+pub readable-right : (l : List ℕ) → T (readable? l) → genotypeWrong? l ≡ false
+readable-right l t = is-false (genotypeWrong? l) (T-not (genotypeWrong? l) (both (tenFields? l) (not (genotypeWrong? l)) .0 t .1))

@@ -1,0 +1,154 @@
+-- `vcf::entry::entry_on` meets its contract: each field is read where it begins, and is what the definition names. Assumes nothing.
+use mathlib.Core.Path.{_≡_, sym, ap, _∙_}
+use native.Mathlib.Omega.{arith}
+use borrow.Author.Needs.{needs}
+use lib.Dec.{lit<}
+use lib.ListN.{length, drop}
+use Rattle.vcf.specs.Bytes.{TAB, COMMA, until}
+use Rattle.vcf.specs.Field.{fieldAt, field}
+use Rattle.vcf.specs.Record.{genotypeOn}
+use Rattle.vcf.proofs.FieldLaws.{until-within, field-length, field-within, read}
+use Rattle.vcf.proofs.RecordLaws.{readable-ten, readable-right, genotype-right}
+use Rattle.vcf.proofs.entry.entry_on.Statement.{statement}
+use Rattle.vcf.proofs.entry.entry_on.Tie as tie
+
+fields-of-requires : tie.Need-fields-of-requires
+fields-of-requires c κs = readable-ten (c .before .args .line .now) (c .before .pre .0)
+
+pos-on-requires : tie.Need-pos-on-requires
+pos-on-requires c κs = (readable-ten (c .before .before .args .line .now) (c .before .before .pre .0), c .fields-of .ensures)
+
+field-from-requires : tie.Need-field-from-requires
+field-from-requires c κs =
+    let l = c .before .before .before .args .line .now in
+    let f = read l (c .before .fields-of .result) (c .before .fields-of .ensures) in
+    let ten = readable-ten l (c .before .before .before .pre .0) in
+    omega (arith, field-within l 3 ten (lit< tt))
+
+field-from-requires-2 : tie.Need-field-from-requires-2
+field-from-requires-2 c κs =
+    let l = c .before .before .before .before .args .line .now in
+    let f = read l (c .before .before .fields-of .result) (c .before .before .fields-of .ensures) in
+    let ten = readable-ten l (c .before .before .before .before .pre .0) in
+    omega (arith, field-within l 4 ten (lit< tt))
+
+find-requires : tie.Need-find-requires
+find-requires c κs = search needs
+
+field-from-requires-3 : tie.Need-field-from-requires-3
+field-from-requires-3 c κs =
+    let l = c .before .before .before .before .before .before .args .line .now in
+    let f = read l (c .before .before .before .before .fields-of .result) (c .before .before .before .before .fields-of .ensures) in
+    let ten = readable-ten l (c .before .before .before .before .before .before .pre .0) in
+    omega (arith, field-within l 9 ten (lit< tt))
+
+genotype-of-requires : tie.Need-genotype-of-requires
+genotype-of-requires c κs = search needs
+
+add-second-part : tie.Need-add-second-part
+add-second-part c =
+    let l = c .before .before .before .before .before .before .before .before .args .line .now in
+    let f = read l (c .before .before .before .before .before .before .fields-of .result) (c .before .before .before .before .before .before .fields-of .ensures) in
+    let ten = readable-ten l (c .before .before .before .before .before .before .before .before .pre .0) in
+    omega (arith, field-within l 4 ten (lit< tt))
+
+second-part-requires : tie.Need-second-part-requires
+second-part-requires c κs =
+    let l = c .before .before .before .before .before .before .before .before .args .line .now in
+    let f = read l (c .before .before .before .before .before .before .fields-of .result) (c .before .before .before .before .before .before .fields-of .ensures) in
+    let ten = readable-ten l (c .before .before .before .before .before .before .before .before .pre .0) in
+    let alt : c .before .before .before .field-from2 .result .now ≡ field 4 l = cc (f .alt) in
+    let long : length (c .before .before .before .field-from2 .result .now) ≡ until TAB (drop (fieldAt 4 l) l) = rw alt (field-length l (fieldAt 4 l)) in
+    let within = until-within TAB l (fieldAt 4 l) in
+    (omega (arith, until-within COMMA (c .before .before .before .field-from2 .result .now) 0), omega (arith, field-within l 4 ten (lit< tt)))
+
+add-t14 : tie.Need-add-t14
+add-t14 c =
+    let l = c .before .before .before .before .before .before .before .before .before .args .line .now in
+    let f = read l (c .before .before .before .before .before .before .before .fields-of .result) (c .before .before .before .before .before .before .before .fields-of .ensures) in
+    let ten = readable-ten l (c .before .before .before .before .before .before .before .before .before .pre .0) in
+    omega (arith, field-within l 3 ten (lit< tt))
+
+add-t18 : tie.Need-add-t18
+add-t18 c =
+    let l = c .before .before .before .before .before .before .before .before .before .args .line .now in
+    let f = read l (c .before .before .before .before .before .before .before .fields-of .result) (c .before .before .before .before .before .before .before .fields-of .ensures) in
+    let ten = readable-ten l (c .before .before .before .before .before .before .before .before .before .pre .0) in
+    omega (arith, field-within l 4 ten (lit< tt))
+
+alt-count-requires : tie.Need-alt-count-requires
+alt-count-requires c κs = search needs
+
+shared-slice-read-t22 : tie.Need-shared-slice-read-t22
+shared-slice-read-t22 c =
+    let l = c .before .before .before .before .before .before .before .before .before .before .before .args .line .now in
+    let f = read l (c .before .before .before .before .before .before .before .before .before .fields-of .result) (c .before .before .before .before .before .before .before .before .before .fields-of .ensures) in
+    let g : c .before .before .before .genotype-of .result .now ≡ genotypeOn l = cc (f .sample) in
+    let w = genotype-right l (readable-right l (c .before .before .before .before .before .before .before .before .before .before .before .pre .0)) in
+    rw g (omega arith)
+
+sub-t23 : tie.Need-sub-t23
+sub-t23 c =
+    let l = c .before .before .before .before .before .before .before .before .before .before .before .args .line .now in
+    let f = read l (c .before .before .before .before .before .before .before .before .before .fields-of .result) (c .before .before .before .before .before .before .before .before .before .fields-of .ensures) in
+    let g : c .before .before .before .genotype-of .result .now ≡ genotypeOn l = cc (f .sample) in
+    let w = genotype-right l (readable-right l (c .before .before .before .before .before .before .before .before .before .before .before .pre .0)) in
+    rw g (w .first)
+
+cast-t24 : tie.Need-cast-t24
+cast-t24 c = omega (arith, c .shared-slice-known2 .given 0)
+
+shared-slice-read-t26 : tie.Need-shared-slice-read-t26
+shared-slice-read-t26 c =
+    let l = c .before .before .before .before .before .before .before .before .before .before .before .before .args .line .now in
+    let f = read l (c .before .before .before .before .before .before .before .before .before .before .fields-of .result) (c .before .before .before .before .before .before .before .before .before .before .fields-of .ensures) in
+    let g : c .before .before .before .before .genotype-of .result .now ≡ genotypeOn l = cc (f .sample) in
+    let w = genotype-right l (readable-right l (c .before .before .before .before .before .before .before .before .before .before .before .before .pre .0)) in
+    rw g (omega arith)
+
+sub-t27 : tie.Need-sub-t27
+sub-t27 c =
+    let l = c .before .before .before .before .before .before .before .before .before .before .before .before .args .line .now in
+    let f = read l (c .before .before .before .before .before .before .before .before .before .before .fields-of .result) (c .before .before .before .before .before .before .before .before .before .before .fields-of .ensures) in
+    let g : c .before .before .before .before .genotype-of .result .now ≡ genotypeOn l = cc (f .sample) in
+    let w = genotype-right l (readable-right l (c .before .before .before .before .before .before .before .before .before .before .before .before .pre .0)) in
+    rw g (w .last)
+
+cast-t28 : tie.Need-cast-t28
+cast-t28 c = omega (arith, c .shared-slice-known3 .given 2)
+
+returns : tie.Need-returns
+returns c =
+    let l = c .before .before .before .before .before .before .before .before .before .before .before .before .args .line .now in
+    let f = read l (c .before .before .before .before .before .before .before .before .before .before .fields-of .result) (c .before .before .before .before .before .before .before .before .before .before .fields-of .ensures) in
+    let alt : c .before .before .before .before .before .before .before .field-from2 .result .now ≡ field 4 l = cc (f .alt) in
+    let g : c .before .before .before .before .genotype-of .result .now ≡ genotypeOn l = cc (f .sample) in
+    let w = genotype-right l (readable-right l (c .before .before .before .before .before .before .before .before .before .before .before .before .pre .0)) in
+    let bases : c .before .before .before .before .before .before .before .before .field-from .result .now ≡ field 3 l = cc (f .reference) in
+    let found : c .before .before .before .before .before .before .find .result ≡ until COMMA (c .before .before .before .before .before .before .before .field-from2 .result .now) = omega arith in
+    let end : c .before .before .before .before .before .before .find .result ≡ until COMMA (field 4 l) = found ∙ ap (until COMMA) alt in
+    cc (f .reference, f .alt)
+
+pub entry-on-spec : {M : Type 1} → statement M
+entry-on-spec =
+    tie.close
+    (tie.spec
+    fields-of-requires
+    pos-on-requires
+    field-from-requires
+    field-from-requires-2
+    find-requires
+    field-from-requires-3
+    genotype-of-requires
+    add-second-part
+    second-part-requires
+    add-t14
+    add-t18
+    alt-count-requires
+    shared-slice-read-t22
+    sub-t23
+    cast-t24
+    shared-slice-read-t26
+    sub-t27
+    cast-t28
+    returns)

@@ -1,0 +1,50 @@
+-- `vcf::field::fields_of` meets its contract: each field is so many fields behind the one before. Assumes nothing.
+use mathlib.Core.Path.{_≡_}
+use native.Mathlib.Omega.{arith}
+use borrow.Author.Needs.{needs}
+use lib.Dec.{lit<}
+use Rattle.vcf.specs.Field.{fieldAt}
+use Rattle.vcf.proofs.FieldLaws.{skip-add, field-within}
+use Rattle.vcf.proofs.field.fields_of.Statement.{statement}
+use Rattle.vcf.proofs.field.fields_of.Tie as tie
+
+skip-fields-requires : tie.Need-skip-fields-requires
+skip-fields-requires c κs = search needs
+
+skip-fields-requires-2 : tie.Need-skip-fields-requires-2
+skip-fields-requires-2 c κs =
+    let l = c .before .before .args .line .now in
+    let e : c .skip-fields .result ≡ fieldAt 1 l = cc in
+    omega (arith, field-within l 1 (c .before .before .pre) (lit< tt))
+
+skip-fields-requires-3 : tie.Need-skip-fields-requires-3
+skip-fields-requires-3 c κs =
+    let l = c .before .before .before .args .line .now in
+    let e : c .skip-fields2 .result ≡ fieldAt 3 l = cc (skip-add 1 2 l 0) in
+    omega (arith, field-within l 3 (c .before .before .before .pre) (lit< tt))
+
+skip-fields-requires-4 : tie.Need-skip-fields-requires-4
+skip-fields-requires-4 c κs =
+    let l = c .before .before .before .before .args .line .now in
+    let e : c .skip-fields3 .result ≡ fieldAt 4 l = cc (skip-add 1 2 l 0, skip-add 3 1 l 0) in
+    omega (arith, field-within l 4 (c .before .before .before .before .pre) (lit< tt))
+
+skip-fields-requires-5 : tie.Need-skip-fields-requires-5
+skip-fields-requires-5 c κs =
+    let l = c .before .before .before .before .before .args .line .now in
+    let e : c .skip-fields4 .result ≡ fieldAt 8 l = cc (skip-add 1 2 l 0, skip-add 3 1 l 0, skip-add 4 4 l 0) in
+    omega (arith, field-within l 8 (c .before .before .before .before .before .pre) (lit< tt))
+
+returns : tie.Need-returns
+returns c = let l = c .before .before .before .before .before .before .args .line .now in cc (skip-add 1 2 l 0, skip-add 3 1 l 0, skip-add 4 4 l 0, skip-add 8 1 l 0)
+
+pub fields-of-spec : {M : Type 1} → statement M
+fields-of-spec =
+    tie.close
+    (tie.spec
+    skip-fields-requires
+    skip-fields-requires-2
+    skip-fields-requires-3
+    skip-fields-requires-4
+    skip-fields-requires-5
+    returns)

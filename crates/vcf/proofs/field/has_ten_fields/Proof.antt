@@ -1,0 +1,72 @@
+-- `vcf::field::has_ten_fields` meets its contract. The loop's invariant: the line is ten full fields exactly if it is `left` full fields from `at` on, and
+-- `at` stays within ten of the line's end. The measure is `left`. Assumes nothing.
+use mathlib.Core.Path.{_≡_, refl}
+use Prim.Native.Nat.{_+_, _≤_}
+use native.Mathlib.Omega.{arith}
+use borrow.Author.Needs.{needs}
+use lib.ListN.{length}
+use Rattle.vcf.specs.Bytes.{TAB}
+use Rattle.vcf.specs.Field.{full?, tenFields?}
+use Rattle.vcf.proofs.FieldLaws.{until-within, full-zero, full-stop, full-more}
+use Rattle.vcf.proofs.field.has_ten_fields.Statement.{statement}
+use Rattle.vcf.proofs.field.has_ten_fields.Tie as tie
+
+abbrev Inv-loop : tie.InvT-loop
+Inv-loop line at₀ left₀ at left = (full? left line at ≡ tenFields? line) × (at + left ≤ length line + 10) × (left ≤ 10)
+
+abbrev μ-loop : tie.MeasureT-loop
+μ-loop line at₀ left₀ at left = left
+
+loop-holds : tie.Need-loop-holds Inv-loop μ-loop
+loop-holds c = (refl, omega arith, omega arith)
+
+find-requires : tie.Need-find-requires Inv-loop μ-loop
+find-requires c κs = search needs
+
+returns : tie.Need-returns Inv-loop μ-loop
+returns c =
+    let l = c .before .before .before .before .before .args .line .now in
+    let at = c .before .before .before .loop .at in
+    let left = c .before .before .before .loop .left in
+    cc (full-stop left l at (omega arith) (omega arith))
+
+add-at : tie.Need-add-at Inv-loop μ-loop
+add-at c = omega (arith, until-within TAB (c .before .before .before .before .before .args .line .now) (c .before .before .before .loop .at))
+
+sub-left : tie.Need-sub-left Inv-loop μ-loop
+sub-left c = omega arith
+
+loop-less : tie.Need-loop-less Inv-loop μ-loop
+loop-less c = omega arith
+
+loop-again : tie.Need-loop-again Inv-loop μ-loop
+loop-again c =
+    let l = c .before .before .before .before .before .args .line .now in
+    let at = c .before .before .before .loop .at in
+    let left = c .before .before .before .loop .left in
+    let w = until-within TAB l at in
+    (cc (full-more left l at (omega arith) (omega arith)), omega arith, omega arith)
+
+add-result : tie.Need-add-result Inv-loop μ-loop
+add-result c = omega arith
+
+returns-2 : tie.Need-returns-2 Inv-loop μ-loop
+returns-2 c =
+    let e : c .before .loop .left ≡ 0 = omega arith in
+    cc (full-zero (c .before .before .before .args .line .now) (c .before .loop .at))
+
+pub has-ten-fields-spec : {M : Type 1} → statement M
+has-ten-fields-spec =
+    tie.close
+    (tie.spec
+    Inv-loop
+    μ-loop
+    loop-holds
+    find-requires
+    returns
+    add-at
+    sub-left
+    loop-less
+    loop-again
+    add-result
+    returns-2)

@@ -1,0 +1,41 @@
+-- `vcf::genotype::format_wrong` meets its contract: the field is GT, or else begins with GT: or is wrong. Assumes nothing.
+use mathlib.Core.Bool.{true, false}
+use mathlib.Core.Path.{_≡_}
+use borrow.Author.Needs.{needs}
+use Rattle.bases.specs.Same.{same?}
+use Rattle.vcf.specs.Bytes.{genotypeKey}
+use Rattle.vcf.proofs.genotype.format_wrong.Statement.{statement}
+use Rattle.vcf.proofs.genotype.format_wrong.Tie as tie
+
+slice-aggregate-same-bytes : tie.Need-slice-aggregate-same-bytes
+slice-aggregate-same-bytes c = search needs
+
+same-bytes-requires : tie.Need-same-bytes-requires
+same-bytes-requires c κs = search needs
+
+returns : tie.Need-returns
+returns c =
+    let e : same? genotypeKey (c .before .before .before .before .args .field .now) ≡ true = cc in
+    rw e
+
+slice-aggregate-begins : tie.Need-slice-aggregate-begins
+slice-aggregate-begins c = search needs
+
+begins-requires : tie.Need-begins-requires
+begins-requires c κs = search needs
+
+returns-2 : tie.Need-returns-2
+returns-2 c =
+    let e : same? genotypeKey (c .before .before .before .before .before .before .args .field .now) ≡ false = cc in
+    rw (e, c .begins .ensures)
+
+pub format-wrong-spec : {M : Type 1} → statement M
+format-wrong-spec =
+    tie.close
+    (tie.spec
+    slice-aggregate-same-bytes
+    same-bytes-requires
+    returns
+    slice-aggregate-begins
+    begins-requires
+    returns-2)

@@ -1,0 +1,84 @@
+-- `vcf::record::is_off_reference` meets its contract: REF is too long for what is left of the reference, or is held against it. Assumes nothing.
+use mathlib.Core.Bool.{not}
+use mathlib.Core.Path.{_≡_, sym, ap, _∙_}
+use Prim.Native.Nat.{_+_, _-_}
+use native.Mathlib.Omega.{arith}
+use borrow.Author.Needs.{needs}
+use lib.Dec.{lit<}
+use lib.ListN.{length, take, drop}
+use Rattle.bases.specs.Same.{sameBases?}
+use Rattle.vcf.proofs.FieldLaws.{field-within, read}
+use Rattle.vcf.proofs.RecordLaws.{off-past, off-within}
+use Rattle.vcf.specs.Field.{field}
+use Rattle.vcf.proofs.record.is_off_reference.Statement.{statement}
+use Rattle.vcf.proofs.record.is_off_reference.Tie as tie
+
+field-from-requires : tie.Need-field-from-requires
+field-from-requires c κs =
+    let l = c .before .before .args .line .now in
+    omega (arith, read l (c .before .before .args .fields) (c .before .before .pre .1), field-within l 3 (c .before .before .pre .0) (lit< tt))
+
+sub-from : tie.Need-sub-from
+sub-from c = search needs
+
+returns : tie.Need-returns
+returns c =
+    let r = c .before .before .before .before .args .reference .now in
+    let pos = c .before .before .before .before .args .pos in
+    let f = read (c .before .before .before .before .args .line .now) (c .before .before .before .before .args .fields) (c .before .before .before .before .pre .1) in
+    sym (off-past r pos (field 3 (c .before .before .before .before .args .line .now)) (omega arith))
+
+sub-if2 : tie.Need-sub-if2
+sub-if2 c = search needs
+
+returns-2 : tie.Need-returns-2
+returns-2 c =
+    let r = c .before .before .before .before .before .args .reference .now in
+    let pos = c .before .before .before .before .before .args .pos in
+    let f = read (c .before .before .before .before .before .args .line .now) (c .before .before .before .before .before .args .fields) (c .before .before .before .before .before .pre .1) in
+    let e : c .before .before .field-from .result .now ≡ field 3 (c .before .before .before .before .before .args .line .now) = cc (f .reference) in
+    sym (off-past r pos (field 3 (c .before .before .before .before .before .args .line .now)) (rw (← e) (omega arith)))
+
+add-end : tie.Need-add-end
+add-end c = search needs
+
+sub-same-bases : tie.Need-sub-same-bases
+sub-same-bases c = search needs
+
+part-same-bases-start : tie.Need-part-same-bases-start
+part-same-bases-start c = search needs
+
+part-same-bases-end : tie.Need-part-same-bases-end
+part-same-bases-end c = search needs
+
+same-bases-requires : tie.Need-same-bases-requires
+same-bases-requires c κs = search needs
+
+returns-3 : tie.Need-returns-3
+returns-3 c =
+    let l = c .before .before .before .before .before .before .before .args .line .now in
+    let r = c .before .before .before .before .before .before .before .args .reference .now in
+    let pos = c .before .before .before .before .before .before .before .args .pos in
+    let f = read l (c .before .before .before .before .before .before .before .args .fields) (c .before .before .before .before .before .before .before .pre .1) in
+    let e : c .before .before .before .before .field-from .result .now ≡ field 3 l = cc (f .reference) in
+    let b = c .before .before .before .before .field-from .result .now in
+    let n : pos - 1 + length b - (pos - 1) ≡ length b = omega arith in
+    let same : c .same-bases .result ≡ sameBases? (field 3 l) (take (length (field 3 l)) (drop (pos - 1) r)) =
+    c .same-bases .ensures ∙ rw (n, e) in
+    ap not same ∙ sym (off-within r pos (field 3 l) (rw (← e) (omega arith)))
+
+pub is-off-reference-spec : {M : Type 1} → statement M
+is-off-reference-spec =
+    tie.close
+    (tie.spec
+    field-from-requires
+    sub-from
+    returns
+    sub-if2
+    returns-2
+    add-end
+    sub-same-bases
+    part-same-bases-start
+    part-same-bases-end
+    same-bases-requires
+    returns-3)

@@ -1,0 +1,21 @@
+-- `vcf::record::pos_on` meets its contract: the field is read where it begins. Assumes nothing.
+use native.Mathlib.Omega.{arith}
+use borrow.Author.Needs.{needs}
+use lib.Dec.{lit<}
+use Rattle.vcf.proofs.FieldLaws.{field-within, read}
+use Rattle.vcf.proofs.record.pos_on.Statement.{statement}
+use Rattle.vcf.proofs.record.pos_on.Tie as tie
+
+field-from-requires : tie.Need-field-from-requires
+field-from-requires c κs =
+    let l = c .before .args .line .now in
+    omega (arith, read l (c .before .args .fields) (c .before .pre .1), field-within l 1 (c .before .pre .0) (lit< tt))
+
+read-pos-requires : tie.Need-read-pos-requires
+read-pos-requires c κs = search needs
+
+returns : tie.Need-returns
+returns c = cc (read (c .before .before .before .args .line .now) (c .before .before .before .args .fields) (c .before .before .before .pre .1) .pos)
+
+pub pos-on-spec : {M : Type 1} → statement M
+pos-on-spec = tie.close (tie.spec field-from-requires read-pos-requires returns)

@@ -1,0 +1,22 @@
+-- `vcf::record::ref_wrong` meets its contract: the field is read where it begins. Assumes nothing.
+use mathlib.Core.Path.{_≡_, ap, sym, _∙_}
+use native.Mathlib.Omega.{arith}
+use borrow.Author.Needs.{needs}
+use lib.Dec.{lit<}
+use Rattle.vcf.proofs.FieldLaws.{field-within, read}
+use Rattle.vcf.proofs.record.ref_wrong.Statement.{statement}
+use Rattle.vcf.proofs.record.ref_wrong.Tie as tie
+
+field-from-requires : tie.Need-field-from-requires
+field-from-requires c κs =
+    let l = c .before .args .line .now in
+    omega (arith, read l (c .before .args .fields) (c .before .pre .1), field-within l 3 (c .before .pre .0) (lit< tt))
+
+is-allele-requires : tie.Need-is-allele-requires
+is-allele-requires c κs = search needs
+
+returns : tie.Need-returns
+returns c = cc (read (c .before .before .before .args .line .now) (c .before .before .before .args .fields) (c .before .before .before .pre .1) .reference)
+
+pub ref-wrong-spec : {M : Type 1} → statement M
+ref-wrong-spec = tie.close (tie.spec field-from-requires is-allele-requires returns)

@@ -1,0 +1,120 @@
+// A list's text, judged: rows 3 to 15 in their order.
+ghost use mathlib.Core.Path.{_≡_};
+ghost use Prim.Native.Nat.{_+_, _<_, _^_};
+ghost use lib.Dec.{T};
+ghost use mathlib.Core.Bool.{true};
+ghost use Rattle.vcf.specs.Field.{tenFields?};
+ghost use Rattle.vcf.specs.List.{textWrong?, lineRows, nextStage, judgeText};
+ghost use Rattle.vcf.specs.Row.{firstRow};
+use crate::bytes::LF;
+use crate::bytes::find;
+use crate::field::fields_of;
+use crate::header::header_wrong;
+use crate::header::is_header_line;
+use crate::record::is_too_long;
+use crate::record::pos_on;
+use crate::record::record_fault;
+
+// The most bytes that a list's text has.
+pub const LONGEST_TEXT: usize = 65_536;
+
+// Where a walk from line to line stands: above the records, or below the column line behind so many records, the last at POS `last`.
+pub struct Stage {
+    pub below: bool,
+    pub records: usize,
+    pub last: usize,
+}
+
+// A row that holds, and the line where it does (from 1; 0 for row 3). No fault is 0 at line 0.
+pub struct Fault {
+    pub number: u32,
+    pub line: usize,
+}
+
+// Is the text too long, or not ended by LF? Row 3.
+fn is_text_wrong(text: &[u8]) -> bool
+    ensures { λ r. ⌜ r ≡ textWrong? (now (text .entry)) ⌝ }
+{
+    let n = text.len();
+    if n == 0 {
+        return true;
+    }
+    if LONGEST_TEXT < n {
+        return true;
+    }
+    text[n - 1] != LF
+}
+
+// The first row that holds on the n-th line of a text, or 0.
+fn line_fault(reference: &[u8], name: &[u8], stage: Stage, n: usize, line: &[u8]) -> u32
+    ensures { λ r. ⌜ r ≡ firstRow (lineRows (now (reference .entry)) (now (name .entry)) stage n (now (line .entry))) ⌝ }
+{
+    if stage.below {
+        return record_fault(reference, name, stage.records, stage.last, line);
+    }
+    if is_too_long(line) {
+        return 4;
+    }
+    if header_wrong(n, line) {
+        return 5;
+    }
+    0
+}
+
+// Where a line leads. Below the column line it is a line of ten fields.
+fn next_stage(stage: Stage, line: &[u8]) -> Stage
+    requires { ⌜ (stage .below ≡ true → T (tenFields? (now line))) × (stage .records + 1 < 2 ^ 64) ⌝ }
+    ensures { λ r. ⌜ r ≡ nextStage stage (now (line .entry)) ⌝ }
+{
+    if stage.below {
+        let pos = pos_on(line, fields_of(line));
+        return Stage {
+            below: true,
+            records: stage.records + 1,
+            last: pos,
+        };
+    }
+    if is_header_line(line) {
+        return Stage {
+            below: false,
+            records: 0,
+            last: 0,
+        };
+    }
+    Stage {
+        below: true,
+        records: 0,
+        last: 0,
+    }
+}
+
+// The first fault of a list's text: row 3, then the lines from the top.
+pub fn judge(reference: &[u8], name: &[u8], text: &[u8]) -> Fault
+    ensures { λ r. ⌜ r ≡ judgeText (now (reference .entry)) (now (name .entry)) (now (text .entry)) ⌝ }
+{
+    if is_text_wrong(text) {
+        return Fault { number: 3, line: 0 };
+    }
+    let mut stage = Stage {
+        below: false,
+        records: 0,
+        last: 0,
+    };
+    let mut n: usize = 1;
+    let mut at: usize = 0;
+    while at < text.len() {
+        let end = find(text, at, LF);
+        let number = line_fault(reference, name, stage, n, &text[at..end]);
+        if number != 0 {
+            return Fault { number, line: n };
+        }
+        stage = next_stage(stage, &text[at..end]);
+        n += 1;
+        at = end + 1;
+    }
+    if stage.below {
+        Fault { number: 0, line: 0 }
+    } else {
+        Fault { number: 5, line: n }
+    }
+}

@@ -1,0 +1,40 @@
+// POS: row 8.
+ghost use mathlib.Core.Path.{_≡_};
+ghost use Prim.Native.Nat.{_≤_};
+ghost use Rattle.vcf.specs.Pos.{digit?, readPos};
+
+// The largest POS.
+pub const LARGEST_POS: usize = 65_535;
+
+// Is the byte a decimal digit?
+pub fn is_digit(byte: u8) -> bool
+    ensures { λ r. ⌜ r ≡ digit? byte ⌝ }
+{
+    (b'0' <= byte) & (byte <= b'9')
+}
+
+// The POS that the field writes, or 0 where it writes none.
+pub fn read_pos(field: &[u8]) -> usize
+    ensures { λ r. ⌜ r ≡ readPos (now (field .entry)) ⌝ }
+{
+    if field.len() == 0 {
+        return 0;
+    }
+    if field[0] == b'0' {
+        return 0;
+    }
+    let mut value: usize = 0;
+    let mut i: usize = 0;
+    while i < field.len() {
+        let byte = field[i];
+        if !is_digit(byte) {
+            return 0;
+        }
+        value = value * 10 + (byte - b'0') as usize;
+        if LARGEST_POS < value {
+            return 0;
+        }
+        i += 1;
+    }
+    value
+}
