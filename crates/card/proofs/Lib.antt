@@ -1,0 +1,4 @@
+pub mod AlleleLaws
+pub mod Determines
+pub mod RefusalLaws
+pub mod ShownLaws

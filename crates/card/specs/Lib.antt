@@ -1,0 +1,2 @@
+pub mod Allele
+pub mod Refusal

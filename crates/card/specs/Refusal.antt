@@ -1,0 +1,43 @@
+-- What is turned away: the three numbers of a refusal, and the first of a call's refusals in document 01's order: 1; 2; list 1; list 2; 17; 16; 18.
+-- Assumes nothing: these are definitions.
+use mathlib.Core.Bool.{Bool, true, false, not}
+use mathlib.Core.List.{List, [], _∷_}
+use Prim.Native.Nat.{ℕ}
+use lib.Dec.{eqb}
+use Rattle.bases.specs.Reference.{isReference?}
+use Rattle.vcf.specs.List.{judgeText}
+use Rattle.card.specs.declared.refusal.Refusal.{Refusal}
+
+abbrev pub refusal : ℕ → ℕ → ℕ → Refusal
+refusal number list line = record { number = number; list = list; line = line }
+
+-- Nothing is turned away: three zeros.
+abbrev pub noRefusal : Refusal
+noRefusal = refusal 0 0 0
+
+-- A refusal, and whether its row holds.
+pub record Check : Type 0 where
+  pub holds : Bool
+  pub refused : Refusal
+
+abbrev pub check : Bool → Refusal → Check
+check t r = record { holds = t; refused = r }
+
+abbrev pub pickRefusal : Bool → Refusal → Refusal → Refusal
+pickRefusal true a b = a
+pickRefusal false a b = b
+
+-- The first refusal whose row holds.
+unfoldable pub firstRefusal : List Check → Refusal
+firstRefusal [] = noRefusal
+firstRefusal (c ∷ cs) = pickRefusal (c .holds) (c .refused) (firstRefusal cs)
+
+-- Row 1.
+abbrev pub referenceCheck : List ℕ → Check
+referenceCheck reference = check (not (isReference? reference)) (refusal 1 0 0)
+
+-- The rows of list j, 3 to 15: the first fault of its text, with its line.
+abbrev pub listCheck : ℕ → List ℕ → List ℕ → List ℕ → Check
+listCheck j reference name text =
+    check (not (eqb (judgeText reference name text .number) 0))
+    (refusal (judgeText reference name text .number) j (judgeText reference name text .line))

@@ -1,0 +1,63 @@
+-- The call `card_allele` answers exactly the part that `allele` shows.
+--     answer-refused, answer-there     the answer, by the refusal
+--     allele-answer-number             its number is that of the companion `allele_refusal`
+--     allele-answer-refusal            where that is not 0, its first three numbers are the companion's, and the fourth is 0
+--     allele-answer-bytes              its list, line and value are the slice, the start and the length of the bytes that `allele` shows
+-- Assumes nothing.
+use mathlib.Core.Bool.{Bool, true, false}
+use mathlib.Core.List.{List}
+use mathlib.Core.Logic.{_≢_}
+use mathlib.Core.Path.{_≡_, refl, sym, ap, _∙_}
+use Prim.Native.Nat.{ℕ}
+use native.Mathlib.Decide.{ℕ-discrete}
+use borrow.Author.Tests.{eq-eqb, ne-eqb}
+use lib.Dec.{eqb}
+use lib.ListN.{take, drop}
+use Rattle.bases.specs.Letter.{pick}
+use Rattle.card.specs.declared.allele.Shown.{Shown}
+use Rattle.card.specs.declared.refusal.Refusal.{Refusal}
+use Rattle.card.specs.Allele.{alleleRefusal, shown, pickList, bytesShown}
+use Rattle.card.proofs.AlleleLaws.{shown-refusal, shown-empty-iff}
+use Rattle.card_abi.specs.declared.answer.CardAnswer.{CardAnswer}
+use Rattle.card_abi.specs.Answer.{answer, refusedAnswer, alleleAnswer}
+
+module _ (s : Shown) where
+  pub answer-refused : s .refusal .number ≢ 0 → alleleAnswer s ≡ refusedAnswer (s .refusal)
+  unfolding alleleAnswer
+  answer-refused n = rw (ne-eqb (s .refusal .number) 0 n)
+
+  pub answer-there : s .refusal .number ≡ 0 → alleleAnswer s ≡ answer 0 (pick (s .text) 1 0) (s .part .at) (s .part .len)
+  unfolding alleleAnswer
+  answer-there e = rw (eq-eqb (s .refusal .number) 0 e)
+
+  answer-number : alleleAnswer s .number ≡ s .refusal .number
+  answer-number = go (ℕ-discrete (s .refusal .number) 0)
+    where
+      go : Dec (s .refusal .number ≡ 0) → alleleAnswer s .number ≡ s .refusal .number
+      go (yes e) = rw (answer-there e) (sym e)
+      go (no n) = rw (answer-refused n)
+
+module _ (reference name text : List ℕ) (i k : ℕ) where
+  abbrev answered : CardAnswer
+  answered = alleleAnswer (shown reference name text i k)
+
+  pub allele-answer-number : answered .number ≡ alleleRefusal reference name text i k .number
+  allele-answer-number = answer-number (shown reference name text i k) ∙ ap (λ (r : Refusal). r .number) (shown-refusal reference name text i k)
+
+  pub allele-answer-refusal : alleleRefusal reference name text i k .number ≢ 0 → answered ≡ refusedAnswer (alleleRefusal reference name text i k)
+  allele-answer-refusal n =
+      let e = shown-refusal reference name text i k in
+      rw (← e) (answer-refused (shown reference name text i k) (rw e n))
+
+  pub allele-answer-bytes : bytesShown reference text (shown reference name text i k) ≡ take (answered .value) (drop (answered .line) (pickList (eqb (answered .list) 1) text reference))
+  allele-answer-bytes = go (ℕ-discrete (alleleRefusal reference name text i k .number) 0)
+    where
+      pick-part : (b : Bool) (at len : ℕ) → pickList b (take len (drop at text)) (take len (drop at reference)) ≡ take len (drop at (pickList (eqb (pick b 1 0) 1) text reference))
+      pick-part true at len = refl
+      pick-part false at len = refl
+
+      go : Dec (alleleRefusal reference name text i k .number ≡ 0) → bytesShown reference text (shown reference name text i k) ≡ take (answered .value) (drop (answered .line) (pickList (eqb (answered .list) 1) text reference))
+      go (yes e) =
+          let s = shown reference name text i k in
+          rw (answer-there s (ap (λ (r : Refusal). r .number) (shown-refusal reference name text i k) ∙ e)) (pick-part (s .text) (s .part .at) (s .part .len))
+      go (no n) = rw (allele-answer-refusal n) (shown-empty-iff reference name text i k .1 n)

@@ -1,0 +1,3 @@
+// The card's calls for C and Rust: no reference is returned, and each answer is four numbers.
+pub mod allele;
+pub mod answer;

@@ -1,0 +1,91 @@
+/*
+ * card.h   the comparison card for C and C++: links with libcard_abi.a (x86-64).
+ *
+ * Every call is a plain function. It allocates nothing, keeps no pointer and has no state: the same input gives the same
+ * answer, from any thread. It ends and stays inside the memory lent to it, for all bytes, counts and numbers.
+ *
+ * What the caller keeps:
+ *
+ *   - A buffer is lent as a pointer and a count of elements. The pointer is valid for that count and is not NULL, also where
+ *     the count is 0: then any other pointer will do.
+ *   - Through a pointer to const the card only reads. Such buffers may overlap one another.
+ *   - A buffer that the card writes overlaps no other buffer of the call.
+ *   - Nothing else writes to a lent buffer until the call returns.
+ *
+ * All else is the card's part: bad input is refused, and a refused call changes no lent byte.
+ */
+#ifndef CARD_H
+#define CARD_H
+
+#include <stddef.h>
+#include <stdint.h>
+
+#ifdef __cplusplus
+extern "C" {
+#endif
+
+/*
+ * Why a call is refused. The first that holds is told, in this order: 1; 2; list 1; list 2; 17; 16; 18, each where the call
+ * has that input. Within a list: 3, then the lines from the top. On a line: 4, 5, 15, then 6 to 14 as numbered. A number is
+ * told only where what it says is so. Numbers from 30 on are kept for calls to come.
+ */
+enum card_refusal {
+    CARD_ANSWERED = 0,            /* the call is not refused */
+    CARD_WRONG_REFERENCE = 1,     /* the reference is not 1 to 65,535 bytes, each A, C, G, T or N */
+    CARD_SMALL_ROOM = 2,          /* lent room too small: marks below 1,024 bytes, plan below 1,024 clusters, normal text
+                                     below the length of the given text */
+    CARD_WRONG_TEXT = 3,          /* list text over 65,536 bytes, or not ending in LF (so also empty) */
+    CARD_LONG_LINE = 4,           /* a line over 1,024 bytes, its LF not counted */
+    CARD_WRONG_HEADER = 5,        /* line 1 is not the version line; a line before the column line does not begin with ##;
+                                     the column line is wrong or missing (told at the line number after the last); a line
+                                     behind it begins with # */
+    CARD_NOT_TEN_FIELDS = 6,      /* a record has not ten TAB-separated fields, or an empty one */
+    CARD_WRONG_CHROM = 7,         /* CHROM is not the name given */
+    CARD_WRONG_POS = 8,           /* POS is not 1 to 65,535, decimal, without leading zero */
+    CARD_WRONG_REF = 9,           /* REF is not 1 to 64 of A, C, G, T, N */
+    CARD_WRONG_ALT = 10,          /* ALT is not one allele, or two with a comma between, each 1 to 64 of A, C, G, T, N,
+                                     different from REF and from each other */
+    CARD_WRONG_GENOTYPE = 11,     /* FORMAT is not GT and does not begin with GT:, or the sample does not begin with a
+                                     genotype of two digits, each at most the number of ALTs, with / or | between */
+    CARD_GENOTYPE_ZERO = 12,      /* the genotype is 0/0 */
+    CARD_NOT_THE_REFERENCE = 13,  /* REF runs past the reference or differs from it */
+    CARD_POS_FALLS = 14,          /* POS is below that of the record before */
+    CARD_TOO_MANY_RECORDS = 15,   /* a 513th record */
+    CARD_NO_CLUSTER = 16,         /* no such cluster */
+    CARD_NOT_THE_PLAN = 17,       /* the plan given is not the plan of these lists */
+    CARD_NO_ALLELE = 18           /* no such entry in the list, or an allele number above its number of ALTs */
+};
+
+/*
+ * What a call answers.
+ *
+ * Refused: number is a card_refusal above 0. list is the list that it is about, 1 or 2, and 0 where it is about none (1, 2,
+ * 16, 17, 18). line is the line in that list's text, from 1, and 0 where it is about none (those and 3). value is 0.
+ *
+ * Answered: number is 0, and the call says what list, line and value are.
+ */
+typedef struct {
+    uint32_t number, list, line, value;
+} card_answer;
+
+/*
+ * Where an allele of an entry stands. Nothing is written or copied.
+ *
+ * reference   the bases, without LF
+ * name        what CHROM of every record has to be; any bytes
+ * text        the list in the subset of VCF 4.2 that the card reads; it is list 1 of a refusal
+ * entry       the entry's number in the list, from 0
+ * allele      0 for REF, 1 and 2 for the ALTs
+ *
+ * Answered: allele 0 is a part of the reference (list 0), 1 and 2 are parts of the text (list 1). The part begins at offset
+ * line, from 0, and is value bytes long. No allele is empty, so value is above 0 exactly where the call is answered.
+ * Refused: 1, 3 to 15 and 18.
+ */
+card_answer card_allele(const uint8_t *reference, size_t reference_count, const uint8_t *name, size_t name_count,
+                        const uint8_t *text, size_t text_count, size_t entry, size_t allele);
+
+#ifdef __cplusplus
+}
+#endif
+
+#endif
