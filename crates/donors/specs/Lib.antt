@@ -1,0 +1,5 @@
+pub mod Apart
+pub mod Choice
+pub mod Donor
+pub mod Items
+pub mod Rules

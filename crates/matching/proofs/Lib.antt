@@ -1,0 +1,10 @@
+pub mod BestLaws
+pub mod BestOfLaws
+pub mod CardBest
+pub mod ClusterLaws
+pub mod CutLaws
+pub mod Examples
+pub mod GapLaws
+pub mod LegalLaws
+pub mod OrderLaws
+pub mod SearchLaws

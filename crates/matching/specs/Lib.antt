@@ -1,0 +1,6 @@
+pub mod Best
+pub mod BestOf
+pub mod Card
+pub mod Cut
+pub mod Legal
+pub mod Search
