@@ -1,5 +1,4 @@
 -- Laws of donors.
---     donorTo                     the donor as far as the reference's place b
 --     EndsBy, StartsFrom          all edits end at b or before it; all start at p or behind it
 --     donor-start                 before the first edit it is the reference
 --     donor-stop                  behind the last edit it is the reference
@@ -12,13 +11,8 @@ use Prim.Native.Nat.{ℕ, _+_, _-_, _≤_}
 use native.Mathlib.Omega.{arith}
 use lib.ListN.{length, drop, length-append}
 use Rattle.donors.specs.Apart.{All, Chain}
-use Rattle.donors.specs.Donor.{part, Edit, end, donorFrom}
+use Rattle.donors.specs.Donor.{part, Edit, end, donorFrom, donorTo}
 use Rattle.donors.proofs.PartLaws.{part-split, rest-split, part-length}
-
--- The donor from place a on, as far as the reference's place b.
-unfoldable pub donorTo : List ℕ → ℕ → ℕ → List Edit → List ℕ
-donorTo R a b [] = part R a b
-donorTo R a b (e ∷ es) = part R a (e .start) ++ (e .new ++ donorTo R (end e) b es)
 
 -- All edits end at b or before it.
 abbrev pub EndsBy : ℕ → List Edit → Type 0

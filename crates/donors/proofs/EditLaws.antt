@@ -17,11 +17,11 @@ use native.Mathlib.Omega.{arith}
 use lib.Dec.{T}
 use lib.ListN.{length}
 use Rattle.donors.specs.Apart.{All, Chain, NoOverlap}
-use Rattle.donors.specs.Donor.{Edit}
+use Rattle.donors.specs.Donor.{Edit, donorTo}
 use Rattle.donors.specs.Items.{only, Ends, Starts, Sorted, Solid, over, reach}
 use Rattle.donors.specs.Rules.{Rules, list1, list2, put, editOf, takes?, edits, Allowed}
 use Rattle.donors.proofs.ApartLaws.{Ordered, chain-pairwise}
-use Rattle.donors.proofs.DonorLaws.{donorTo, EndsBy, StartsFrom, cuts, adds, donor-length}
+use Rattle.donors.proofs.DonorLaws.{EndsBy, StartsFrom, cuts, adds, donor-length}
 
 put-append : (t : Bool) (e : Edit) (es fs : List Edit) → put t e (es ++ fs) ≡ put t e es ++ fs
 put-append true e es fs = refl

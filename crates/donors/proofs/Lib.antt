@@ -1,6 +1,11 @@
+pub mod AgreeLaws
 pub mod ApartLaws
+pub mod BuildLaws
 pub mod ChoiceLaws
+pub mod Determines
 pub mod DonorLaws
 pub mod EditLaws
 pub mod Examples
 pub mod PartLaws
+pub mod StandLaws
+pub mod TableLaws

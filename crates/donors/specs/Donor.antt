@@ -23,6 +23,11 @@ unfoldable pub donorFrom : List ℕ → ℕ → List Edit → List ℕ
 donorFrom R a [] = drop a R
 donorFrom R a (e ∷ es) = part R a (e .start) ++ (e .new ++ donorFrom R (end e) es)
 
+-- The donor from place a on, as far as the reference's place b.
+unfoldable pub donorTo : List ℕ → ℕ → ℕ → List Edit → List ℕ
+donorTo R a b [] = part R a b
+donorTo R a b (e ∷ es) = part R a (e .start) ++ (e .new ++ donorTo R (end e) b es)
+
 -- The donor of edits in order of their starts.
 abbrev pub donor : List ℕ → List Edit → List ℕ
 donor R es = donorFrom R 0 es

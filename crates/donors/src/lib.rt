@@ -1,2 +1,5 @@
-// Donors: what the reference becomes under a list's choices, and which choices overlap.
-// The code comes later; specs/ says what it will mean and proofs/ has the laws.
+// The donor of a list on a copy, built from a table of entries and their choices, and whether the donors of the two lists are equal.
+// The contracts cite specs/.
+pub mod agree;
+pub mod build;
+pub mod table;

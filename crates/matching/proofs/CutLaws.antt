@@ -15,11 +15,11 @@ use native.Mathlib.Nat.{suc-inj}
 use native.Mathlib.Omega.{arith}
 use lib.ListN.{length, drop, length-append}
 use Rattle.donors.specs.Apart.{Chain}
-use Rattle.donors.specs.Donor.{part, donorFrom}
+use Rattle.donors.specs.Donor.{part, donorFrom, donorTo}
 use Rattle.donors.specs.Items.{reach}
 use Rattle.donors.specs.Rules.{Rules, list1, list2, edits, donorOf}
 use Rattle.donors.proofs.ApartLaws.{chain-split}
-use Rattle.donors.proofs.DonorLaws.{donorTo, donor-start, donor-stop, donor-split}
+use Rattle.donors.proofs.DonorLaws.{donor-start, donor-stop, donor-split}
 use Rattle.donors.proofs.EditLaws.{edits-append, allowed-append, edits-ends, edits-starts, donors-near}
 use Rattle.matching.specs.Best.{Scoring, score, IsBest}
 use Rattle.matching.specs.Cut.{Cut}

@@ -1,0 +1,98 @@
+-- `donors::build::put_allele` meets its contract: the part is taken from the text or from the reference, as the allele says. Assumes nothing.
+use mathlib.Core.Path.{_≡_, _∙_}
+use Prim.Native.Nat.{_+_, _-_, _≤_}
+use native.Mathlib.Omega.{arith}
+use borrow.Author.Needs.{needs}
+use lib.ListN.{length, take, drop, length-drop}
+use lib.Seq.{length-take-le}
+use Rattle.donors.proofs.build.put_allele.Statement.{statement}
+use Rattle.donors.proofs.build.put_allele.Tie as tie
+
+add-end : tie.Need-add-end
+add-end c =
+    let a = c .before .before .before .before .before .args .allele in
+    let s = c .before .before .before .before .before .args .text .now in
+    let h : a .at + a .len ≤ length s = rw (c .before .if1 .taken) at (c .before .before .before .before .before .pre .0) in
+    omega arith
+
+sub-put-bases : tie.Need-sub-put-bases
+sub-put-bases c = search needs
+
+part-put-bases-start : tie.Need-part-put-bases-start
+part-put-bases-start c = search needs
+
+part-put-bases-end : tie.Need-part-put-bases-end
+part-put-bases-end c =
+    let a = c .before .before .before .before .before .args .allele in
+    let s = c .before .before .before .before .before .args .text .now in
+    let h : a .at + a .len ≤ length s = rw (c .before .if1 .taken) at (c .before .before .before .before .before .pre .0) in
+    omega arith
+
+put-bases-requires : tie.Need-put-bases-requires
+put-bases-requires c κs = search needs
+
+same-length : tie.Need-same-length
+same-length c = search needs
+
+returns : tie.Need-returns
+returns c =
+    let a = c .before .before .before .before .before .before .before .before .before .before .args .allele in
+    let s = c .before .before .before .before .before .before .before .before .before .before .args .text .now in
+    let h : a .at + a .len ≤ length s = rw (c .before .before .before .before .before .before .if1 .taken) at (c .before .before .before .before .before .before .before .before .before .before .pre .0) in
+    let n : a .at + a .len - a .at ≡ a .len = omega arith in
+    let l : length (take (a .len) (drop (a .at) s)) ≡ a .len = length-take-le (a .len) (drop (a .at) s) (rw length-drop (omega arith)) in
+    (c .before .before .put-bases .ensures .0 ∙ rw (n, l), c .before .before .put-bases .ensures .1 ∙ rw (n, l, c .before .before .before .before .before .before .if1 .taken))
+
+add-end-2 : tie.Need-add-end-2
+add-end-2 c =
+    let a = c .before .before .before .before .before .args .allele in
+    let s = c .before .before .before .before .before .args .reference .now in
+    let h : a .at + a .len ≤ length s = rw (c .before .if1 .left) at (c .before .before .before .before .before .pre .0) in
+    omega arith
+
+sub-put-bases-2 : tie.Need-sub-put-bases-2
+sub-put-bases-2 c = search needs
+
+part-put-bases-start-2 : tie.Need-part-put-bases-start-2
+part-put-bases-start-2 c = search needs
+
+part-put-bases-end-2 : tie.Need-part-put-bases-end-2
+part-put-bases-end-2 c =
+    let a = c .before .before .before .before .before .args .allele in
+    let s = c .before .before .before .before .before .args .reference .now in
+    let h : a .at + a .len ≤ length s = rw (c .before .if1 .left) at (c .before .before .before .before .before .pre .0) in
+    omega arith
+
+put-bases-requires-2 : tie.Need-put-bases-requires-2
+put-bases-requires-2 c κs = search needs
+
+same-length-2 : tie.Need-same-length-2
+same-length-2 c = search needs
+
+returns-2 : tie.Need-returns-2
+returns-2 c =
+    let a = c .before .before .before .before .before .before .before .before .before .before .args .allele in
+    let s = c .before .before .before .before .before .before .before .before .before .before .args .reference .now in
+    let h : a .at + a .len ≤ length s = rw (c .before .before .before .before .before .before .if1 .left) at (c .before .before .before .before .before .before .before .before .before .before .pre .0) in
+    let n : a .at + a .len - a .at ≡ a .len = omega arith in
+    let l : length (take (a .len) (drop (a .at) s)) ≡ a .len = length-take-le (a .len) (drop (a .at) s) (rw length-drop (omega arith)) in
+    (c .before .before .put-bases2 .ensures .0 ∙ rw (n, l), c .before .before .put-bases2 .ensures .1 ∙ rw (n, l, c .before .before .before .before .before .before .if1 .left))
+
+pub put-allele-spec : {M : Type 1} → statement M
+put-allele-spec =
+    tie.close
+    (tie.spec
+    add-end
+    sub-put-bases
+    part-put-bases-start
+    part-put-bases-end
+    put-bases-requires
+    same-length
+    returns
+    add-end-2
+    sub-put-bases-2
+    part-put-bases-start-2
+    part-put-bases-end-2
+    put-bases-requires-2
+    same-length-2
+    returns-2)

@@ -1,0 +1,39 @@
+-- The donors of the two lists, compared: what a table of entries must be for that, and what is asked.
+-- Assumes nothing: these are definitions.
+use mathlib.Core.Bool.{Bool}
+use mathlib.Core.List.{List}
+use Prim.Native.Nat.{ℕ, _+_, _-_, _*_, _≤_, _<_}
+use lib.ListN.{length}
+use Rattle.bases.specs.Letter.{basesOf}
+use Rattle.bases.specs.Same.{same?}
+use Rattle.donors.specs.Apart.{Chain}
+use Rattle.donors.specs.Build.{Sound}
+use Rattle.donors.specs.Choice.{Copy, cardRules}
+use Rattle.donors.specs.Items.{Starts, Ends, over}
+use Rattle.donors.specs.Rules.{list1, list2, edits, donorOf}
+use Rattle.donors.specs.Table.{most, width, rowAt, pickList, variantsFrom, choicesFrom}
+
+-- The table has n entries, each sound, all of them between a and b on the reference, and two buffers have room for what the lists can make of that stretch.
+-- This does not depend on the choices.
+pub record Ready (reference first second t : List ℕ) (n a b space1 space2 : ℕ) : Type 0 where
+  pub rows : n * width ≤ length t
+  pub few : n ≤ most
+  pub sound : (i : ℕ) → i < n → Sound reference (pickList (rowAt t i .first) first second) (rowAt t i)
+  pub order : a ≤ b
+  pub inside : b ≤ length reference
+  pub starts : Starts cardRules a (variantsFrom reference first second t 0 n)
+  pub ends : Ends cardRules b (variantsFrom reference first second t 0 n)
+  pub room1 : (b - a) + over cardRules (cardRules .grow) list1 (variantsFrom reference first second t 0 n) ≤ space1
+  pub room2 : (b - a) + over cardRules (cardRules .grow) list2 (variantsFrom reference first second t 0 n) ≤ space2
+
+-- On copy h no two chosen spans of a list overlap.
+abbrev pub ApartOn : (reference first second t φ : List ℕ) → Copy → ℕ → Type 0
+ApartOn reference first second t φ h n = (j : Bool) → Chain 0 (edits cardRules j h (variantsFrom reference first second t 0 n) (choicesFrom φ 0 n))
+
+-- The donor of list j on copy h, over the whole reference, with a table's entries and their choices.
+abbrev pub donorBy : (reference first second t φ : List ℕ) → Bool → Copy → ℕ → List ℕ
+donorBy reference first second t φ j h n = donorOf cardRules (basesOf reference) j h (variantsFrom reference first second t 0 n) (choicesFrom φ 0 n)
+
+-- On copy h the two lists have one donor.
+abbrev pub oneDonor? : (reference first second t φ : List ℕ) → Copy → ℕ → Bool
+oneDonor? reference first second t φ h n = same? (donorBy reference first second t φ list1 h n) (donorBy reference first second t φ list2 h n)
