@@ -1,0 +1,63 @@
+-- Examples 2 to 5 of document 01, and the N that a shift brings into ALT: the closed form computes each, so each is the normal form in document 01's words.
+-- Assumes nothing.
+use mathlib.Core.List.{List, [], _∷_, List·Memᴰ·not-nil, List·Memᴰ·cases-cons}
+use mathlib.Core.Logic.{⊎-elim}
+use mathlib.Core.Path.{_≡_, refl, subst}
+use Prim.Native.Nat.{ℕ, _-_, _≤_}
+use lib.Dec.{lit≤}
+use lib.ListN.{length}
+use Rattle.normal.specs.Form.{Form, OnReference, NoneEmpty, NormalForm}
+use Rattle.normal.specs.Cut.{run, all?, shortest, normalOf}
+use Rattle.normal.proofs.NormalForm.{normal-exists}
+
+abbrev pub A : ℕ
+A = 65
+
+abbrev pub C : ℕ
+C = 67
+
+abbrev pub G : ℕ
+G = 71
+
+abbrev pub N : ℕ
+N = 78
+
+abbrev pub T : ℕ
+T = 84
+
+-- An entry with one ALT.
+abbrev pub entry : ℕ → List ℕ → List ℕ → Form
+entry pos ref alt = record { start = pos - 1; ref = ref; alts = alt ∷ [] }
+
+-- What the closed form computes is the normal form.
+computed : (r : List ℕ) (pos : ℕ) (ref alt : List ℕ) (g : Form) → OnReference r (entry pos ref alt) → 1 ≤ length ref → 1 ≤ length alt → normalOf r (entry pos ref alt) ≡ g → NormalForm r (entry pos ref alt) g
+computed r pos ref alt g on h k e = subst (NormalForm r (entry pos ref alt)) e (normal-exists r (entry pos ref alt) on some)
+  where
+    some : NoneEmpty (entry pos ref alt)
+    some a m =
+        ⊎-elim (λ d. rw d h) (λ n. ⊎-elim (λ d. rw d k) (λ o. absurd (List·Memᴰ·not-nil o)) (List·Memᴰ·cases-cons n)) (List·Memᴰ·cases-cons m)
+
+-- 2. GCATATG, POS 4 TAT to T: normal POS 2, CAT to C.
+pub example-2 : NormalForm (G ∷ C ∷ A ∷ T ∷ A ∷ T ∷ G ∷ []) (entry 4 (T ∷ A ∷ T ∷ []) (T ∷ [])) (entry 2 (C ∷ A ∷ T ∷ []) (C ∷ []))
+unfolding normalOf run all? shortest
+example-2 = computed _ 4 _ _ _ (lit≤ tt, refl) (lit≤ tt) (lit≤ tt) refl
+
+-- 3. AACG, POS 2 AC to C: normal POS 1, AA to A.
+pub example-3 : NormalForm (A ∷ A ∷ C ∷ G ∷ []) (entry 2 (A ∷ C ∷ []) (C ∷ [])) (entry 1 (A ∷ A ∷ []) (A ∷ []))
+unfolding normalOf run all? shortest
+example-3 = computed _ 2 _ _ _ (lit≤ tt, refl) (lit≤ tt) (lit≤ tt) refl
+
+-- 4. ACG, POS 1 AC to C: normal already.
+pub example-4 : NormalForm (A ∷ C ∷ G ∷ []) (entry 1 (A ∷ C ∷ []) (C ∷ [])) (entry 1 (A ∷ C ∷ []) (C ∷ []))
+unfolding normalOf run all? shortest
+example-4 = computed _ 1 _ _ _ (lit≤ tt, refl) (lit≤ tt) (lit≤ tt) refl
+
+-- 5. ACG, POS 1 ACG to ACT: normal POS 3, G to T.
+pub example-5 : NormalForm (A ∷ C ∷ G ∷ []) (entry 1 (A ∷ C ∷ G ∷ []) (A ∷ C ∷ T ∷ [])) (entry 3 (G ∷ []) (T ∷ []))
+unfolding normalOf run all? shortest
+example-5 = computed _ 1 _ _ _ (lit≤ tt, refl) (lit≤ tt) (lit≤ tt) refl
+
+-- CNAAG, POS 3 AA to A: normal POS 2, NA to N.
+pub example-N : NormalForm (C ∷ N ∷ A ∷ A ∷ G ∷ []) (entry 3 (A ∷ A ∷ []) (A ∷ [])) (entry 2 (N ∷ A ∷ []) (N ∷ []))
+unfolding normalOf run all? shortest
+example-N = computed _ 3 _ _ _ (lit≤ tt, refl) (lit≤ tt) (lit≤ tt) refl

@@ -1,0 +1,14 @@
+pub mod AlikeLaws
+pub mod CutLaws
+pub mod Determines
+pub mod DonorLaws
+pub mod EntryLaws
+pub mod Examples
+pub mod ExistLaws
+pub mod ExtendedLaws
+pub mod FormLaws
+pub mod MemberLaws
+pub mod NormalEntry
+pub mod NormalForm
+pub mod RunLaws
+pub mod SpelledLaws

@@ -1,0 +1,3 @@
+// The normal form of an entry. The contracts cite specs/.
+pub mod cut;
+pub mod entry;
