@@ -1,5 +1,5 @@
 -- What one entry adds to a donor that is built from left to right: the reference up to its span and its allele, or nothing where it is not of the list, or
--- takes no room.
+-- takes no room. Then the whole donor of a table's rows over a stretch of the reference: what it takes to build it, and how it stands in a buffer.
 -- Assumes nothing: these are definitions.
 use mathlib.Core.Bool.{Bool}
 use mathlib.Core.List.{List, [], _++_}
