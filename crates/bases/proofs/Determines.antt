@@ -7,6 +7,10 @@ use Prim.Native.Nat.{ℕ}
 use contract.Lifetimes.{Lfts}
 use denote.Triple.Clauses.{AtExit}
 use borrow.Fn.Kinds.{PK, RK, Dens, resT, endedOf, Out}
+use Rattle.bases.proofs.bytes.agree.Kinds as bytes-agree-kinds
+use Rattle.bases.proofs.bytes.agree.Reads as bytes-agree
+use Rattle.bases.proofs.bytes.same_bytes.Kinds as same-bytes-kinds
+use Rattle.bases.proofs.bytes.same_bytes.Reads as same-bytes
 use Rattle.bases.proofs.letter.letter.Kinds as letter-kinds
 use Rattle.bases.proofs.letter.letter.Reads as letter
 use Rattle.bases.proofs.letter.all_letters.Kinds as all-letters-kinds
@@ -64,3 +68,9 @@ has-period-determines κs a z z′ e e′ p q = p ∙ sym q
 
 pub has-any-period-determines : OneResult 1 has-any-period-kinds.ps has-any-period-kinds.r has-any-period.Post
 has-any-period-determines κs a z z′ e e′ p q = p ∙ sym q
+
+pub bytes-agree-determines : OneResult 2 bytes-agree-kinds.ps bytes-agree-kinds.r bytes-agree.Post
+bytes-agree-determines κs a z z′ e e′ p q = p ∙ sym q
+
+pub same-bytes-determines : OneResult 2 same-bytes-kinds.ps same-bytes-kinds.r same-bytes.Post
+same-bytes-determines κs a z z′ e e′ p q = p ∙ sym q

@@ -1,28 +1,11 @@
 // Are the donors of the two lists equal on a copy? Only the stretch of the reference where the entries lie is built and compared.
 ghost use mathlib.Core.Path.{_≡_};
 ghost use lib.ListN.{length};
-ghost use Rattle.bases.specs.Same.{same?};
 ghost use Rattle.donors.specs.Agree.{Ready, ApartOn, oneDonor?};
 ghost use Rattle.donors.specs.Table.{copyOf};
 use crate::build::build;
 use crate::table::MOST;
-
-// Are the two equal? The first place where they differ ends the walk.
-fn same(a: &[u8], b: &[u8]) -> bool
-    ensures { λ r. ⌜ r ≡ same? (now (a .entry)) (now (b .entry)) ⌝ }
-{
-    if a.len() != b.len() {
-        return false;
-    }
-    let mut i: usize = 0;
-    while i < a.len() {
-        if a[i] != b[i] {
-            return false;
-        }
-        i += 1;
-    }
-    true
-}
+use bases::bytes::same_bytes;
 
 // Are the donors of the two lists on a copy equal, with the first n entries of the table and their choices? All entries lie between places `from` and `to` of
 // the reference. `mine` and `other` are room to build in: what is left there is not told.
@@ -66,5 +49,5 @@ pub fn donors_agree(
         to,
         other,
     );
-    same(&mine[..m], &other[..k])
+    same_bytes(&mine[..m], &other[..k])
 }

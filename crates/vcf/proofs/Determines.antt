@@ -16,8 +16,6 @@ use Rattle.vcf.proofs.bytes.begins.Kinds as begins-kinds
 use Rattle.vcf.proofs.bytes.begins.Reads as begins
 use Rattle.vcf.proofs.bytes.find.Kinds as find-kinds
 use Rattle.vcf.proofs.bytes.find.Reads as find
-use Rattle.vcf.proofs.bytes.same_bytes.Kinds as same-bytes-kinds
-use Rattle.vcf.proofs.bytes.same_bytes.Reads as same-bytes
 use Rattle.vcf.proofs.entry.entry_at.Kinds as entry-at-kinds
 use Rattle.vcf.proofs.entry.entry_at.Reads as entry-at
 use Rattle.vcf.proofs.entry.next_line.Kinds as next-line-kinds
@@ -71,9 +69,6 @@ find-determines κs a z z′ e e′ p q = p ∙ sym q
 
 pub begins-determines : OneResult 2 begins-kinds.ps begins-kinds.r begins.Post
 begins-determines κs a z z′ e e′ p q = p ∙ sym q
-
-pub same-bytes-determines : OneResult 2 same-bytes-kinds.ps same-bytes-kinds.r same-bytes.Post
-same-bytes-determines κs a z z′ e e′ p q = p ∙ sym q
 
 pub next-line-determines : OneResult 1 next-line-kinds.ps next-line-kinds.r next-line.Post
 next-line-determines κs a z z′ e e′ p q = p ∙ sym q

@@ -5,8 +5,8 @@ ghost use Rattle.vcf.specs.Genotype.{formatWrong?, genotype, digitTo?, c
 use crate::bytes::COLON;
 use crate::bytes::begins;
 use crate::bytes::find;
-use crate::bytes::same_bytes;
 use crate::pos::is_digit;
+use bases::bytes::same_bytes;
 
 // Is FORMAT neither GT nor begun by GT: ?
 pub fn format_wrong(field: &[u8]) -> bool

@@ -4,7 +4,7 @@ ghost use Rattle.vcf.specs.Header.{versionLine?, headerLine?, columnLine
 use crate::bytes::TAB;
 use crate::bytes::begins;
 use crate::bytes::find;
-use crate::bytes::same_bytes;
+use bases::bytes::same_bytes;
 
 // Is this the version line?
 fn is_version_line(line: &[u8]) -> bool

@@ -10,7 +10,6 @@ use crate::allele::alt_count;
 use crate::allele::alts_wrong;
 use crate::allele::is_allele;
 use crate::bytes::begins;
-use crate::bytes::same_bytes;
 use crate::field::Fields;
 use crate::field::field_from;
 use crate::field::fields_of;
@@ -19,6 +18,7 @@ use crate::genotype::copies_wrong;
 use crate::genotype::format_wrong;
 use crate::genotype::genotype_of;
 use crate::pos::read_pos;
+use bases::bytes::same_bytes;
 use bases::same::same_bases;
 
 // The most bytes of a line, without its LF.

@@ -22,20 +22,20 @@ build-requires-2 c κs =
     let p = c .before .before .before .before .before .before .before .before .before .before .before .pre in
     ready-builds (a .reference .now) (a .first .now) (a .second .now) (a .table .now) (a .choices) (copyOf (a .copy)) (a .n) (a .from) (a .to) (length (a .mine .now)) (length (a .other .now)) (p .0) (p .1) list2 (length (a .other .now)) (p .0 .room2)
 
-slice-reshare-prefix-same : tie.Need-slice-reshare-prefix-same
-slice-reshare-prefix-same c = written-fits _ _ _ _ (c .before .before .before .before .before .before .build .ensures)
+slice-reshare-prefix-same-bytes : tie.Need-slice-reshare-prefix-same-bytes
+slice-reshare-prefix-same-bytes c = written-fits _ _ _ _ (c .before .before .before .before .before .before .build .ensures)
 
-slice-aggregate-same : tie.Need-slice-aggregate-same
-slice-aggregate-same c = c .before .before .before .before .before .before .before .build .ensures .len ∙ sym (ap length (written-front _ _ _ _ (c .before .before .before .before .before .before .before .build .ensures)))
+slice-aggregate-same-bytes : tie.Need-slice-aggregate-same-bytes
+slice-aggregate-same-bytes c = c .before .before .before .before .before .before .before .build .ensures .len ∙ sym (ap length (written-front _ _ _ _ (c .before .before .before .before .before .before .before .build .ensures)))
 
-slice-reshare-prefix-same-2 : tie.Need-slice-reshare-prefix-same-2
-slice-reshare-prefix-same-2 c = written-fits _ _ _ _ (c .before .before .before .build2 .ensures)
+slice-reshare-prefix-same-bytes-2 : tie.Need-slice-reshare-prefix-same-bytes-2
+slice-reshare-prefix-same-bytes-2 c = written-fits _ _ _ _ (c .before .before .before .build2 .ensures)
 
-slice-aggregate-same-2 : tie.Need-slice-aggregate-same-2
-slice-aggregate-same-2 c = c .before .before .before .before .build2 .ensures .len ∙ sym (ap length (written-front _ _ _ _ (c .before .before .before .before .build2 .ensures)))
+slice-aggregate-same-bytes-2 : tie.Need-slice-aggregate-same-bytes-2
+slice-aggregate-same-bytes-2 c = c .before .before .before .before .build2 .ensures .len ∙ sym (ap length (written-front _ _ _ _ (c .before .before .before .before .build2 .ensures)))
 
-same-requires : tie.Need-same-requires
-same-requires c κs = search needs
+same-bytes-requires : tie.Need-same-bytes-requires
+same-bytes-requires c κs = search needs
 
 same-length : tie.Need-same-length
 same-length c = search needs
@@ -47,7 +47,7 @@ returns : tie.Need-returns
 returns c =
     let a = c .before .before .before .before .before .before .before .before .before .before .before .before .before .before .before .before .before .args in
     let p = c .before .before .before .before .before .before .before .before .before .before .before .before .before .before .before .before .before .pre in
-    c .same .ensures
+    c .same-bytes .ensures
     ∙ same-fronts _ _ _ _ _ _ _ _ (c .before .before .before .before .before .before .before .before .before .build .ensures) (c .before .before .before .before .before .build2 .ensures)
     ∙ sym (one-donor (a .reference .now) (a .first .now) (a .second .now) (a .table .now) (a .choices) (copyOf (a .copy)) (a .n) (a .from) (a .to) (length (a .mine .now)) (length (a .other .now)) (p .0) (p .1))
 
@@ -57,11 +57,11 @@ donors-agree-spec =
     (tie.spec
     build-requires
     build-requires-2
-    slice-reshare-prefix-same
-    slice-aggregate-same
-    slice-reshare-prefix-same-2
-    slice-aggregate-same-2
-    same-requires
+    slice-reshare-prefix-same-bytes
+    slice-aggregate-same-bytes
+    slice-reshare-prefix-same-bytes-2
+    slice-aggregate-same-bytes-2
+    same-bytes-requires
     same-length
     same-length-2
     returns)

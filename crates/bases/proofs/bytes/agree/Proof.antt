@@ -1,13 +1,13 @@
--- `vcf::bytes::agree` meets its contract. The loop's invariant: the two agree exactly if they agree from i on.
+-- `bases::bytes::agree` meets its contract. The loop's invariant: the two agree exactly if they agree from i on.
 -- The measure is what is left of the first. Assumes nothing.
 use mathlib.Core.Path.{_≡_, refl}
 use Prim.Native.Nat.{_≤_, _-_}
 use native.Mathlib.Omega.{arith}
 use lib.ListN.{length, drop}
 use Rattle.bases.specs.Same.{agree?}
 use Rattle.bases.proofs.SameLaws.{agree-stop, agree-more, agree-past-first, agree-past-second}
-use Rattle.vcf.proofs.bytes.agree.Statement.{statement}
-use Rattle.vcf.proofs.bytes.agree.Tie as tie
+use Rattle.bases.proofs.bytes.agree.Statement.{statement}
+use Rattle.bases.proofs.bytes.agree.Tie as tie
 
 abbrev Inv-loop : tie.InvT-loop
 Inv-loop a b i₀ i = (i ≤ length a) × (agree? (drop i a) (drop i b) ≡ agree? a b)

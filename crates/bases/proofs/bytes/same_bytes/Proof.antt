@@ -1,8 +1,8 @@
--- `vcf::bytes::same_bytes` meets its contract: equal lengths, and no place where they differ. Assumes nothing.
+-- `bases::bytes::same_bytes` meets its contract: equal lengths, and no place where they differ. Assumes nothing.
 use borrow.Author.Needs.{needs}
 use borrow.Author.Tests.{eq-eqb, ne-eqb}
-use Rattle.vcf.proofs.bytes.same_bytes.Statement.{statement}
-use Rattle.vcf.proofs.bytes.same_bytes.Tie as tie
+use Rattle.bases.proofs.bytes.same_bytes.Statement.{statement}
+use Rattle.bases.proofs.bytes.same_bytes.Tie as tie
 
 returns : tie.Need-returns
 returns c = simp (ne-eqb _ _ (c .if1 .taken))
