@@ -1,6 +1,7 @@
 -- The card's own best pair: the general theorems at the card's rules and score.
 --     rank-words        `+` ranks before `-`, and `-` before `0`
 --     score-words       the score is the number of chosen entries in both lists
+--     all-allowed       every choice is allowed
 --     legal-words, best-words
 --                       a legal pair and the best pair are what document 01 says, for entries in merged order
 --     card-best         cardBest is document 01's best pair, and the only one
@@ -45,7 +46,7 @@ score-words [] φ = refl
 score-words (x ∷ xs) [] = refl
 score-words (x ∷ xs) (c ∷ φ) = omega (arith, counts-put (x .side) c x (chosenOf list1 xs φ) (chosenOf list2 xs φ), score-words xs φ)
 
-all-allowed : (xs : List Variant) (φ : List Choice) → Allowed cardRules xs φ
+pub all-allowed : (xs : List Variant) (φ : List Choice) → Allowed cardRules xs φ
 all-allowed [] φ = tt
 all-allowed (x ∷ xs) [] = tt
 all-allowed (x ∷ xs) (c ∷ φ) = (tt, all-allowed xs φ)

@@ -1,10 +1,16 @@
+pub mod AnswerBest
+pub mod AnswerLaws
 pub mod BestLaws
 pub mod BestOfLaws
 pub mod CardBest
 pub mod ClusterLaws
 pub mod CutLaws
+pub mod EntryLaws
 pub mod Examples
 pub mod GapLaws
 pub mod LegalLaws
+pub mod MadeLaws
+pub mod MidwayLaws
 pub mod OrderLaws
 pub mod SearchLaws
+pub mod StepLaws

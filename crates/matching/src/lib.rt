@@ -1,2 +1,4 @@
 // Matching: legal choices, their score, and the best string of choices, which clusters can be solved for alone.
-// The code comes later; specs/ says what it will mean and proofs/ has the theorems.
+// The contracts cite specs/, which say what is meant; proofs/ have the theorems.
+pub mod answer;
+pub mod search;

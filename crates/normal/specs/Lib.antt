@@ -1,3 +1,4 @@
 pub mod Cut
 pub mod Form
 pub mod Spelled
+pub mod Written

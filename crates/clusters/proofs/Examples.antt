@@ -1,0 +1,75 @@
+-- Document 01's examples of clusters, as the plan computes them: 1, 6, 7 and 8, in one table.
+-- Assumes nothing.
+use mathlib.Core.Bool.{Bool}
+use mathlib.Core.List.{List, [], _∷_}
+use mathlib.Core.Path.{_≡_, refl}
+use Prim.Native.Nat.{ℕ, _-_}
+use lib.ListN.{length}
+use Rattle.bases.specs.Letter.{among?, letterOf}
+use Rattle.bases.specs.Period.{anyPeriod?}
+use Rattle.bases.specs.Same.{agree?}
+use Rattle.donors.specs.Apart.{All}
+use Rattle.donors.specs.Choice.{Variant}
+use Rattle.donors.specs.Rules.{list1, list2}
+use Rattle.clusters.specs.Plan.{Cluster, rest, plan, recordsFrom, cardPlan}
+use Rattle.clusters.specs.Merged.{weave, merged}
+
+-- The letters.
+abbrev A : ℕ
+A = 65
+
+abbrev C : ℕ
+C = 67
+
+abbrev G : ℕ
+G = 71
+
+abbrev T : ℕ
+T = 84
+
+-- An entry with one ALT, 1/1.
+abbrev hom : Bool → ℕ → List ℕ → List ℕ → Variant
+hom j pos ref alt = record { side = j; start = pos - 1; len = length ref; allele0 = alt; allele1 = alt }
+
+-- A row: the reference, the entries of the two lists, and the plan.
+pub record Row : Type 0 where
+  pub reference : List ℕ
+  pub first : List Variant
+  pub second : List Variant
+  pub plan : List Cluster
+
+abbrev pub table : List Row
+table =
+    -- 1
+    record {
+      reference = G ∷ C ∷ A ∷ T ∷ A ∷ T ∷ G ∷ [];
+      first = hom list1 2 (C ∷ A ∷ T ∷ []) (C ∷ []) ∷ [];
+      second = hom list2 4 (T ∷ A ∷ T ∷ []) (T ∷ []) ∷ [];
+      plan = record { first = 0; count = 2 } ∷ [];
+    }
+    -- 6
+    ∷ record {
+      reference = G ∷ C ∷ A ∷ T ∷ A ∷ T ∷ A ∷ T ∷ A ∷ T ∷ G ∷ [];
+      first = hom list1 2 (C ∷ A ∷ T ∷ []) (C ∷ []) ∷ [];
+      second = hom list2 8 (T ∷ A ∷ T ∷ []) (T ∷ []) ∷ [];
+      plan = record { first = 0; count = 2 } ∷ [];
+    }
+    -- 7
+    ∷ record {
+      reference = T ∷ A ∷ T ∷ G ∷ C ∷ A ∷ G ∷ T ∷ [];
+      first = hom list1 1 (T ∷ A ∷ T ∷ []) (T ∷ []) ∷ [];
+      second = hom list2 7 (G ∷ []) (C ∷ []) ∷ [];
+      plan = record { first = 0; count = 1 } ∷ record { first = 1; count = 1 } ∷ [];
+    }
+    -- 8
+    ∷ record {
+      reference = T ∷ A ∷ T ∷ G ∷ C ∷ G ∷ T ∷ [];
+      first = hom list1 1 (T ∷ A ∷ T ∷ []) (T ∷ []) ∷ [];
+      second = hom list2 6 (G ∷ []) (C ∷ []) ∷ [];
+      plan = record { first = 0; count = 2 } ∷ [];
+    }
+    ∷ []
+
+pub examples : All (λ (r : Row). recordsFrom 0 (cardPlan (r .reference) (merged (λ (x : Variant). x .start) (r .first) (r .second))) ≡ r .plan) table
+unfolding among? letterOf anyPeriod? agree? weave merged rest plan recordsFrom
+examples = (refl, (refl, (refl, (refl, tt))))

@@ -1,0 +1,12 @@
+pub mod CardClusters
+pub mod ClusterLaws
+pub mod Determines
+pub mod Examples
+pub mod FirstLaws
+pub mod GapLaws
+pub mod HeadsLaws
+pub mod MergedLaws
+pub mod NextLaws
+pub mod PlanLaws
+pub mod SoundLaws
+pub mod WalkLaws

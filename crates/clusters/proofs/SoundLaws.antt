@@ -1,0 +1,135 @@
+-- The entries of accepted texts.
+--     copies-named                     the copies' numbers name alleles that the entry has
+--     entry-sound                      what is so of a record's entry, from the rows that do not hold on its line
+--     entries-all, entries-sound       of each entry from a place on
+--     entries-sorted                   POS is not below that of an entry before
+-- Assumes nothing.
+use mathlib.Core.Bool.{Bool, true, false, _&&_}
+use mathlib.Core.List.{List, [], _∷_}
+use mathlib.Core.Path.{_≡_, _∙_}
+use Prim.Native.Nat.{ℕ, zero, suc, _+_, _-_, _≤_, _<_}
+use native.Mathlib.Decide.{decLt}
+use native.Mathlib.Omega.{arith}
+use borrow.Author.Tests.{ltb-false, not-false}
+use lib.Dec.{T, eqb, leb, leb→le}
+use lib.ListN.{length, take, drop, getD, length-drop}
+use lib.Seq.{length-take-le}
+use Rattle.bases.specs.Letter.{pick, allLetters?, basesOf}
+use Rattle.bases.proofs.LetterLaws.{bases-length}
+use Rattle.bases.proofs.TestLaws.{of-true, both, neither}
+use Rattle.donors.specs.Apart.{All}
+use Rattle.vcf.specs.declared.entry.Entry.{Entry}
+use Rattle.vcf.specs.Allele.{longestAllele, isAllele?, firstAlt, twoAlts?, secondAlt, altCount}
+use Rattle.vcf.specs.Bytes.{COMMA, until}
+use Rattle.vcf.specs.Entry.{lineAt, nextLine, entryOf, entriesFrom}
+use Rattle.vcf.specs.Field.{field}
+use Rattle.vcf.specs.Genotype.{digitTo?, separator?, formatWrong?, copiesWrong?, copy0, copy1}
+use Rattle.vcf.specs.List.{linesOf}
+use Rattle.vcf.specs.Pos.{digit?}
+use Rattle.vcf.specs.Record.{posOn, genotypeOn}
+use Rattle.vcf.proofs.AcceptedLaws.{Records, RecordsFrom, records-here, records-next}
+use Rattle.vcf.proofs.BytesLaws.{until-le}
+use Rattle.vcf.proofs.EntryLaws.{entriesAt, entries-at, entries-past}
+use Rattle.vcf.proofs.PartLaws.{first-within, second-within}
+use Rattle.vcf.proofs.RecordLineLaws.{RecordLine, record-line, first-allele, second-allele}
+use Rattle.clusters.specs.Item.{startOf, alleleOf, lenOf, Sound}
+use Rattle.clusters.proofs.MergedLaws.{SortedBy}
+
+-- the digit's number is at most n
+digit-to : (n b : ℕ) → T (digitTo? n b) → b - 48 ≤ n
+digit-to n b t = leb→le (b - 48) n (both (digit? b) (leb (b - 48) n) .0 t .1)
+
+pub copies-named : (n : ℕ) (g : List ℕ) → copiesWrong? n g ≡ false → (copy0 g ≤ n) × (copy1 g ≤ n)
+unfolding copiesWrong?
+copies-named n g e =
+    let d0 = digitTo? n (getD g 0 0) in
+    let s = separator? (getD g 1 0) in
+    let d1 = digitTo? n (getD g 2 0) in
+    let k = both (eqb (length g) 3) (d0 && (s && d1)) .0 (of-true (not-false (eqb (length g) 3 && (d0 && (s && d1))) e)) .1 in
+    let m = both d0 (s && d1) .0 k in
+    (digit-to n (getD g 0 0) (m .0), digit-to n (getD g 2 0) (both s d1 .0 (m .1) .1))
+
+allele-size : (x : List ℕ) → T (isAllele? x) → (1 ≤ length x) × (length x ≤ longestAllele)
+allele-size x t =
+    let k = both (leb 1 (length x)) (leb (length x) longestAllele && allLetters? x) .0 t in
+    (leb→le 1 (length x) (k .0), leb→le (length x) longestAllele (both (leb (length x) longestAllele) (allLetters? x) .0 (k .1) .0))
+
+-- a part that ends within is as long as it says
+part-size : (t : List ℕ) (at len : ℕ) → at + len ≤ length t → length (basesOf (take len (drop at t))) ≡ len
+part-size t at len h = bases-length (take len (drop at t)) ∙ length-take-le len (drop at t) (rw length-drop (omega arith))
+
+-- The line at a is a record's.
+module _ (reference t : List ℕ) (a : ℕ) (inside : a < length t) (line : RecordLine reference (lineAt t a)) where
+  two : (k : ℕ) → suc (suc k) ≤ altCount (field 4 (lineAt t a)) → T (twoAlts? (field 4 (lineAt t a)))
+  two k h = go (twoAlts? (field 4 (lineAt t a))) h
+    where
+      go : (b : Bool) → suc (suc k) ≤ pick b 2 1 → T b
+      go true h = tt
+      go false h = absurd (omega arith)
+
+  allele-long : (k : ℕ) → k ≤ altCount (field 4 (lineAt t a)) → length (alleleOf reference t (entryOf (lineAt t a) a) k) ≡ lenOf (entryOf (lineAt t a) a) k
+  allele-long zero h = part-size reference (startOf (entryOf (lineAt t a) a)) (entryOf (lineAt t a) a .reference .len) (line .within)
+  allele-long (suc zero) h =
+      part-size t (entryOf (lineAt t a) a .first .at) (entryOf (lineAt t a) a .first .len) (first-within t a (omega arith) (line .ten))
+  allele-long (suc (suc k)) h =
+      part-size t (entryOf (lineAt t a) a .second .at) (entryOf (lineAt t a) a .second .len) (second-within t a (omega arith) (line .ten) (two k h))
+
+  allele-short : (k : ℕ) → k ≤ altCount (field 4 (lineAt t a)) → lenOf (entryOf (lineAt t a) a) k ≤ longestAllele
+  allele-short zero h = allele-size (field 3 (lineAt t a)) (line .ref) .1
+  allele-short (suc zero) h =
+      let f = field 4 (lineAt t a) in
+      omega (arith, allele-size (firstAlt f) (first-allele (field 3 (lineAt t a)) f (line .alts)) .1, length-take-le (until COMMA f) f (until-le COMMA f))
+  allele-short (suc (suc k)) h =
+      let f = field 4 (lineAt t a) in
+      omega (arith, allele-size (secondAlt f) (second-allele (field 3 (lineAt t a)) f (line .alts) (two k h)) .1, length-drop (until COMMA f + 1) f)
+
+  pub entry-sound : Sound reference t (entryOf (lineAt t a) a)
+  entry-sound =
+      let r = lineAt t a in
+      let c = copies-named (altCount (field 4 r)) (genotypeOn r) (neither (formatWrong? (field 8 r)) (copiesWrong? (altCount (field 4 r)) (genotypeOn r)) (line .genotype) .1) in
+      record {
+        pos = line .pos;
+        some = allele-size (field 3 r) (line .ref) .0;
+        within = line .within;
+        short = allele-size (field 3 r) (line .ref) .1;
+        long0 = allele-long (copy0 (genotypeOn r)) (c .0);
+        long1 = allele-long (copy1 (genotypeOn r)) (c .1);
+        short0 = allele-short (copy0 (genotypeOn r)) (c .0);
+        short1 = allele-short (copy1 (genotypeOn r)) (c .1);
+      }
+
+module _ (reference name t : List ℕ) where
+  all-from : (P : Entry → Type 0) → ((a : ℕ) → a < length t → RecordLine reference (lineAt t a) → P (entryOf (lineAt t a) a))
+      → (fuel a : ℕ) → length t - a ≤ fuel → RecordsFrom reference name t a → All P (entriesAt t a)
+  all-from P f zero a h r = rw (entries-past t a (omega arith)) tt
+  all-from P f (suc fuel) a h r = go (decLt a (length t)) (all-from P f fuel (nextLine t a) (omega arith))
+    where
+      go : Dec (a < length t) → (RecordsFrom reference name t (nextLine t a) → All P (entriesAt t (nextLine t a))) → All P (entriesAt t a)
+      go (yes k) i =
+          let z = records-here reference name t a r k in
+          rw (entries-at t a k) (f a k (record-line reference name (r .records) (r .last) (lineAt t a) z), i (records-next reference name t a r k))
+      go (no k) i = rw (entries-past t a (omega arith)) tt
+
+  pub entries-all : (P : Entry → Type 0) → ((a : ℕ) → a < length t → RecordLine reference (lineAt t a) → P (entryOf (lineAt t a) a))
+      → (a : ℕ) → RecordsFrom reference name t a → All P (entriesAt t a)
+  entries-all P f a r = all-from P f (length t) a (omega arith) r
+
+  pub entries-sound : (a : ℕ) → RecordsFrom reference name t a → All (Sound reference t) (entriesAt t a)
+  entries-sound a r = entries-all (Sound reference t) (entry-sound reference t) a r
+
+  entries-above : (records last a m : ℕ) (ls : List (List ℕ)) → Records reference name records last ls → m ≤ last
+      → All (λ (e : Entry). m ≤ e .pos .0) (entriesFrom a ls)
+  unfolding entriesFrom
+  entries-above records last a m [] r h = tt
+  entries-above records last a m (l ∷ ls) r h =
+      let k = ltb-false (posOn l) last (r .0 .1 .1 .1 .1 .1 .1 .1 .1 .1 .1 .1 .0) in
+      (omega arith, entries-above (records + 1) (posOn l) (a + length l + 1) m ls (r .1) (omega arith))
+
+  lines-sorted : (records last a : ℕ) (ls : List (List ℕ)) → Records reference name records last ls → SortedBy (λ (e : Entry). e .pos .0) (entriesFrom a ls)
+  unfolding entriesFrom
+  lines-sorted records last a [] r = tt
+  lines-sorted records last a (l ∷ ls) r =
+      (entries-above (records + 1) (posOn l) (a + length l + 1) (posOn l) ls (r .1) (omega arith), lines-sorted (records + 1) (posOn l) (a + length l + 1) ls (r .1))
+
+  pub entries-sorted : (a : ℕ) → RecordsFrom reference name t a → SortedBy (λ (e : Entry). e .pos .0) (entriesAt t a)
+  entries-sorted a r = lines-sorted (r .records) (r .last) a (linesOf (drop a t)) (r .clear)

@@ -1,0 +1,41 @@
+-- `clusters::gap::is_cut` meets its contract: before b there is no cut, and behind it a cut is where the gap has no period up to g. Assumes nothing.
+use mathlib.Core.Path.{sym}
+use native.Mathlib.Omega.{arith}
+use borrow.Author.Needs.{needs}
+use Rattle.bases.specs.Letter.{basesOf}
+use Rattle.clusters.proofs.GapLaws.{cut-behind, cut-bases}
+use Rattle.clusters.proofs.gap.is_cut.Statement.{statement}
+use Rattle.clusters.proofs.gap.is_cut.Tie as tie
+
+returns : tie.Need-returns
+returns c = sym (cut-behind (basesOf (c .before .before .args .reference .now)) (c .before .before .args .current) (c .before .before .args .start) (c .if1 .taken))
+
+reach-of-requires : tie.Need-reach-of-requires
+reach-of-requires c κs = search needs
+
+part-has-any-period-start : tie.Need-part-has-any-period-start
+part-has-any-period-start c = search needs
+
+part-has-any-period-end : tie.Need-part-has-any-period-end
+part-has-any-period-end c = search needs
+
+has-any-period-requires : tie.Need-has-any-period-requires
+has-any-period-requires c κs = search needs
+
+returns-2 : tie.Need-returns-2
+returns-2 c =
+    let r = c .before .before .before .before .before .args .reference .now in
+    let cur = c .before .before .before .before .before .args .current in
+    let p = c .before .before .before .before .before .args .start in
+    cc (cut-bases r cur p (omega arith) (omega arith))
+
+pub is-cut-spec : {M : Type 1} → statement M
+is-cut-spec =
+    tie.close
+    (tie.spec
+    returns
+    reach-of-requires
+    part-has-any-period-start
+    part-has-any-period-end
+    has-any-period-requires
+    returns-2)

@@ -1,0 +1,5 @@
+pub mod Gap
+pub mod Heads
+pub mod Item
+pub mod Merged
+pub mod Plan

@@ -1,0 +1,6 @@
+// Clusters: the entries of two lists in merged order, the gap rule, and the clusters that it cuts, in one walk over both texts.
+// The contracts cite specs/.
+pub mod cluster;
+pub mod gap;
+pub mod heads;
+pub mod item;

@@ -1,0 +1,72 @@
+-- Laws of the entries of a table, as matching reads them.
+--     entries, entryAt          the entries of the rows from row i on, and of row i
+--     entries-length, entries-at
+--                               how many there are, and which stands at a place
+--     ready-room                what a table is ready for is a matter of how much room there is, and not of what stands there
+--     legal-first, legal-both   choices that do not overlap are not legal where the donors differ on copy 0, and else as the donors on copy 1 say
+-- Assumes nothing.
+use mathlib.Core.Bool.{Bool, true, false, _&&_}
+use mathlib.Core.List.{List, _∷_, _++_}
+use mathlib.Core.Path.{_≡_, refl, sym, ap, _∙_}
+use Prim.Native.Nat.{ℕ, zero, suc, _+_, _-_, _<_}
+use native.Mathlib.Nat.{zero-add}
+use native.Mathlib.Omega.{arith}
+use borrow.Author.Tests.{eq-eqb}
+use lib.ListN.{length}
+use Rattle.bases.specs.Letter.{basesOf}
+use Rattle.bases.proofs.TestLaws.{is-true}
+use Rattle.donors.specs.Agree.{Ready, oneDonor?}
+use Rattle.donors.specs.Choice.{copy0, copy1, Variant, cardRules}
+use Rattle.donors.specs.Table.{rowAt, pickList, variantOf, variantsFrom, choicesFrom}
+use Rattle.matching.specs.BestOf.{every?, keep?}
+use Rattle.matching.specs.Card.{cardFinite}
+use Rattle.matching.specs.Made.{Kept, cardLegal?}
+use Rattle.matching.proofs.AnswerLaws.{choices-length}
+
+module _ (reference first second t : List ℕ) where
+  abbrev pub entries : ℕ → ℕ → List Variant
+  entries i n = variantsFrom reference first second t i n
+
+  abbrev pub entryAt : ℕ → Variant
+  entryAt i = variantOf reference (pickList (rowAt t i .first) first second) (rowAt t i)
+
+  pub entries-length : (i n : ℕ) → length (entries i n) ≡ n
+  unfolding variantsFrom
+  entries-length i zero = refl
+  entries-length i (suc n) = ap suc (entries-length (i + 1) n)
+
+  entries-append : (i k m : ℕ) → entries i (k + m) ≡ entries i k ++ entries (i + k) m
+  unfolding variantsFrom
+  entries-append i zero m = let e : i + 0 ≡ i = omega arith in rw (zero-add m, e)
+  entries-append i (suc k) m =
+      let e : suc k + m ≡ suc (k + m) = omega arith in
+      let f : i + suc k ≡ (i + 1) + k = omega arith in
+      rw (e, f) (ap (λ (xs : List Variant). entryAt i ∷ xs) (entries-append (i + 1) k m))
+
+  pub entries-at : (k n : ℕ) → k < n → entries 0 n ≡ entries 0 k ++ (entryAt k ∷ entries (k + 1) (n - (k + 1)))
+  unfolding variantsFrom
+  entries-at k n h =
+      let e : n ≡ k + suc (n - (k + 1)) = omega arith in
+      ap (entries 0) e ∙ entries-append 0 k (suc (n - (k + 1))) ∙ rw (zero-add k)
+
+  pub ready-room : (n a b space1 space2 room1 room2 : ℕ) → Ready reference first second t n a b space1 space2 → space1 ≡ room1 → space2 ≡ room2
+      → Ready reference first second t n a b room1 room2
+  ready-room n a b space1 space2 room1 room2 r e f = rw (← e, ← f) r
+
+  module _ (choices : List ℕ) (n : ℕ) (k : Kept (entries 0 n) (choicesFrom choices 0 n)) where
+    legal-donors : (u v : Bool) → oneDonor? reference first second t choices copy0 n ≡ u → oneDonor? reference first second t choices copy1 n ≡ v
+        → cardLegal? (basesOf reference) (entries 0 n) (choicesFrom choices 0 n) ≡ u && (v && true)
+    unfolding every?
+    legal-donors u v e f =
+        rw (eq-eqb (length (choicesFrom choices 0 n)) (length (entries 0 n)) (choices-length choices 0 n ∙ sym (entries-length 0 n)), is-true (keep? cardRules cardFinite (entries 0 n) (choicesFrom choices 0 n)) k, e, f)
+
+    pub legal-first : oneDonor? reference first second t choices copy0 n ≡ false → cardLegal? (basesOf reference) (entries 0 n) (choicesFrom choices 0 n) ≡ false
+    legal-first e = legal-donors false _ e refl
+
+    pub legal-both : {v : Bool} → oneDonor? reference first second t choices copy0 n ≡ true → oneDonor? reference first second t choices copy1 n ≡ v
+        → cardLegal? (basesOf reference) (entries 0 n) (choicesFrom choices 0 n) ≡ v
+    legal-both {v} e f = legal-donors true v e f ∙ go v
+      where
+        go : (v : Bool) → v && true ≡ v
+        go true = refl
+        go false = refl

@@ -1,0 +1,232 @@
+-- `matching::search::search` meets its contract. The measure is the number of entries left. With none left the choices made are the answer where they are
+-- legal; else the answer is the better of those for the three choices of the entry at n - left, as the definition's step says. Assumes nothing.
+use mathlib.Core.Path.{_≡_, refl, sym, ap, _∙_}
+use mathlib.Core.Logic.{⊎-elim}
+use native.Mathlib.Omega.{arith}
+use borrow.Author.Needs.{needs}
+use lib.ListN.{length}
+use lib.Seq.{set-set}
+use Rattle.donors.specs.declared.table.Row.{Row}
+use Rattle.donors.specs.Choice.{plus, minus}
+use Rattle.matching.proofs.EntryLaws.{ready-room}
+use Rattle.matching.proofs.MidwayLaws.{made-all, search-found, search-none, made-skipped, made-taken, made-total, search-taken, search-skipped}
+use Prim.Native.Nat.{ℕ, _-_, _<_}
+use borrow.Fn.Kinds.{In}
+use borrow.Fn.PlainCycle.{Measures, is, falls, and}
+use Rattle.matching.proofs.search.search.Reads as search′
+use Rattle.matching.proofs.search.search.Kinds as search-kinds
+use Rattle.matching.proofs.search.+search.Lts-search as search-lts
+use Rattle.donors.proofs.table.row_at.Reads as row-at-reads
+use Rattle.matching.proofs.answer.better.Reads as better-reads
+use Rattle.matching.proofs.answer.nothing.Reads as nothing-reads
+use Rattle.matching.proofs.search.end_by.Reads as end-by-reads
+use Rattle.matching.proofs.search.ends_after.Reads as ends-after-reads
+use Rattle.matching.proofs.search.is_legal.Reads as is-legal-reads
+use Rattle.matching.proofs.search.+search.{statement}
+use Rattle.matching.proofs.search.+search.Tie.{close}
+
+abbrev μ-search : Measures 6 search-kinds.ps ℕ
+μ-search κs a = a .1 .1 .1 .1 .1 .0
+
+abbrev search-at : ℕ → In 6 search-kinds.ps
+search-at t = and 6 search-kinds.ps (is 6 search-kinds.ps μ-search t) search′.Pre
+
+abbrev search-below : ℕ → In 6 search-kinds.ps
+search-below t = and 6 search-kinds.ps (falls 6 search-kinds.ps _<_ μ-search t) search′.Pre
+
+-- what is known of the functions called
+abbrev calls : ℕ → search-lts.Claims
+calls t = (
+  is-legal-reads.Asked,
+  is-legal-reads.Learnt,
+  nothing-reads.Asked,
+  nothing-reads.Learnt,
+  row-at-reads.Asked,
+  row-at-reads.Learnt,
+  end-by-reads.Asked,
+  end-by-reads.Learnt,
+  ends-after-reads.Asked,
+  ends-after-reads.Learnt,
+  search-below t,
+  search′.Post,
+  better-reads.Asked,
+  better-reads.Learnt,
+)
+
+-- the buffers keep their lengths on either way through the branch
+joined-mine : (t : ℕ) (c : search-lts.Joined3 (calls t) (search-at t) search′.Post) → length (c .before .before .before .before .before .before .before .before .before .before .before .before .before .args .mine .now) ≡ length (c .if3 .mine)
+joined-mine t c =
+    ⊎-elim (λ w. omega (arith, ap length (w .17), w .5 .kept .1 .1 .1 .1 .1 .1 .1 .1 .1 .1 .1 .0, w .12 .kept .1 .1 .1 .1 .1 .1 .1 .1 .1 .1 .1 .0)) (λ w. omega (arith, ap length (w .1))) (c .if3 .came)
+
+joined-other : (t : ℕ) (c : search-lts.Joined3 (calls t) (search-at t) search′.Post) → length (c .before .before .before .before .before .before .before .before .before .before .before .before .before .args .other .now) ≡ length (c .if3 .other)
+joined-other t c =
+    ⊎-elim (λ w. omega (arith, ap length (w .18), w .5 .kept .1 .1 .1 .1 .1 .1 .1 .1 .1 .1 .1 .1 .0, w .12 .kept .1 .1 .1 .1 .1 .1 .1 .1 .1 .1 .1 .1 .0)) (λ w. omega (arith, ap length (w .2))) (c .if3 .came)
+
+search-is-legal-requires : (t : ℕ) → search-lts.Need-is-legal-requires (calls t) (search-at t) search′.Post
+search-is-legal-requires t c κs =
+    let a = c .before .before .before .before .before .before .before .before .before .args in
+    let p = c .before .before .before .before .before .before .before .before .before .pre .1 in
+    (p .0, made-all (a .reference .now) (a .first .now) (a .second .now) (a .table .now) (a .choices) (a .ends) (a .score) (a .n) (a .left) (c .before .before .if1 .taken) (p .2))
+
+search-same-length : (t : ℕ) → search-lts.Need-same-length (calls t) (search-at t) search′.Post
+search-same-length t c = omega arith
+
+search-same-length-2 : (t : ℕ) → search-lts.Need-same-length-2 (calls t) (search-at t) search′.Post
+search-same-length-2 t c = omega arith
+
+search-returns : (t : ℕ) → search-lts.Need-returns (calls t) (search-at t) search′.Post
+search-returns t c =
+    let a = c .before .before .before .before .before .before .before .before .before .before .before .before .before .before .before .args in
+    search-found (a .reference .now) (a .first .now) (a .second .now) (a .table .now) (a .choices) (a .ends) (a .score) (a .n) (a .left) (c .before .before .before .before .before .before .before .before .if1 .taken) (c .before .before .before .before .before .before .before .before .before .before .before .before .before .before .before .pre .1 .2)
+    (sym (c .before .before .before .before .before .is-legal .ensures) ∙ c .if2 .taken)
+
+search-nothing-requires : (t : ℕ) → search-lts.Need-nothing-requires (calls t) (search-at t) search′.Post
+search-nothing-requires t c κs = search needs
+
+search-same-length-3 : (t : ℕ) → search-lts.Need-same-length-3 (calls t) (search-at t) search′.Post
+search-same-length-3 t c = omega arith
+
+search-same-length-4 : (t : ℕ) → search-lts.Need-same-length-4 (calls t) (search-at t) search′.Post
+search-same-length-4 t c = omega arith
+
+search-returns-2 : (t : ℕ) → search-lts.Need-returns-2 (calls t) (search-at t) search′.Post
+search-returns-2 t c =
+    let a = c .before .before .before .before .before .before .before .before .before .before .before .before .before .before .before .before .args in
+    c .nothing .ensures ∙ search-none (a .reference .now) (a .first .now) (a .second .now) (a .table .now) (a .choices) (a .ends) (a .score) (a .n) (a .left) (c .before .before .before .before .before .before .before .before .before .if1 .taken) (c .before .before .before .before .before .before .before .before .before .before .before .before .before .before .before .before .pre .1 .2)
+    (sym (c .before .before .before .before .before .before .is-legal .ensures) ∙ c .before .if2 .left)
+
+search-sub-at : (t : ℕ) → search-lts.Need-sub-at (calls t) (search-at t) search′.Post
+search-sub-at t c = omega arith
+
+search-row-at-requires : (t : ℕ) → search-lts.Need-row-at-requires (calls t) (search-at t) search′.Post
+search-row-at-requires t c κs = omega arith
+
+search-nothing-requires-2 : (t : ℕ) → search-lts.Need-nothing-requires-2 (calls t) (search-at t) search′.Post
+search-nothing-requires-2 t c κs = search needs
+
+search-nothing-requires-3 : (t : ℕ) → search-lts.Need-nothing-requires-3 (calls t) (search-at t) search′.Post
+search-nothing-requires-3 t c κs = search needs
+
+search-end-by-requires : (t : ℕ) → search-lts.Need-end-by-requires (calls t) (search-at t) search′.Post
+search-end-by-requires t c κs = search needs
+
+search-add-ends-after : (t : ℕ) → search-lts.Need-add-ends-after (calls t) (search-at t) search′.Post
+search-add-ends-after t c =
+    let a = c .before .before .before .before .before .before .before .before .before .before .before .before .before .before .args in
+    let e = c .before .before .before .before .before .before .row-at .ensures in
+    omega (arith, c .before .before .before .before .before .before .before .before .before .before .before .before .before .before .good .0, c .before .before .before .before .before .before .before .before .before .before .before .before .before .before .pre .1 .0 .sound (a .n - a .left) (omega (arith, c .before .before .before .before .before .before .before .before .before .before .before .before .before .before .pre .1 .1)) .span, ap (λ (r : Row). r .start) e, ap (λ (r : Row). r .len) e)
+
+search-ends-after-requires : (t : ℕ) → search-lts.Need-ends-after-requires (calls t) (search-at t) search′.Post
+search-ends-after-requires t c κs = search needs
+
+search-array-write-next : (t : ℕ) → search-lts.Need-array-write-next (calls t) (search-at t) search′.Post
+search-array-write-next t c = omega (arith, c .before .before .before .before .before .before .before .before .before .before .before .before .before .before .before .pre .1 .0 .few)
+
+search-sub-search : (t : ℕ) → search-lts.Need-sub-search (calls t) (search-at t) search′.Post
+search-sub-search t c = omega arith
+
+search-add-search : (t : ℕ) → search-lts.Need-add-search (calls t) (search-at t) search′.Post
+search-add-search t c =
+    let a = c .before .before .before .before .before .before .before .before .before .before .before .before .before .before .before .args in
+    let p = c .before .before .before .before .before .before .before .before .before .before .before .before .before .before .before .pre .1 in
+    omega (arith, made-total (a .reference .now) (a .first .now) (a .second .now) (a .table .now) (a .choices) (a .ends) (a .score) (a .n) (a .left) (p .0 .few) (c .before .before .before .before .before .before .before .before .if1 .left) (p .1) (p .2), p .0 .few)
+
+search-search-requires : (t : ℕ) → search-lts.Need-search-requires (calls t) (search-at t) search′.Post
+search-search-requires t c κs =
+    let a = c .before .before .before .before .before .before .before .before .before .before .before .before .before .before .before .before .before .args in
+    let p = c .before .before .before .before .before .before .before .before .before .before .before .before .before .before .before .before .before .pre .1 in
+    let taken = made-taken (a .reference .now) (a .first .now) (a .second .now) (a .table .now) (a .choices) (a .ends) (a .score) (a .n) (a .left) (p .0 .few) (c .before .before .before .before .before .before .before .before .before .before .if1 .left) (p .1) (p .2) (c .before .before .before .before .before .before .before .before .before .row-at .result) (c .before .before .before .before .before .before .end-by .result) (c .before .before .before .before .before .before .before .before .before .row-at .ensures) (c .before .before .before .before .before .before .end-by .ensures) plus _ (c .before .before .ends-after .result) tt refl (c .before .before .ends-after .ensures) (c .before .before .before .before .if3 .taken) in
+    (omega (arith, c .before .before .before .before .before .before .before .before .before .before .before .before .before .before .before .before .before .pre .0, c .before .before .before .before .before .before .before .before .before .before .if1 .left), (p .0, omega (arith, p .1), taken))
+
+search-array-write-next-2 : (t : ℕ) → search-lts.Need-array-write-next-2 (calls t) (search-at t) search′.Post
+search-array-write-next-2 t c = omega (arith, c .before .before .before .before .before .before .before .before .before .before .before .before .before .before .before .before .before .before .before .before .before .before .pre .1 .0 .few)
+
+search-sub-search-2 : (t : ℕ) → search-lts.Need-sub-search-2 (calls t) (search-at t) search′.Post
+search-sub-search-2 t c = omega arith
+
+search-add-search-2 : (t : ℕ) → search-lts.Need-add-search-2 (calls t) (search-at t) search′.Post
+search-add-search-2 t c =
+    let a = c .before .before .before .before .before .before .before .before .before .before .before .before .before .before .before .before .before .before .before .before .before .before .args in
+    let p = c .before .before .before .before .before .before .before .before .before .before .before .before .before .before .before .before .before .before .before .before .before .before .pre .1 in
+    omega (arith, made-total (a .reference .now) (a .first .now) (a .second .now) (a .table .now) (a .choices) (a .ends) (a .score) (a .n) (a .left) (p .0 .few) (c .before .before .before .before .before .before .before .before .before .before .before .before .before .before .before .if1 .left) (p .1) (p .2), p .0 .few)
+
+search-search-requires-2 : (t : ℕ) → search-lts.Need-search-requires-2 (calls t) (search-at t) search′.Post
+search-search-requires-2 t c κs =
+    let a = c .before .before .before .before .before .before .before .before .before .before .before .before .before .before .before .before .before .before .before .before .before .before .before .before .args in
+    let p = c .before .before .before .before .before .before .before .before .before .before .before .before .before .before .before .before .before .before .before .before .before .before .before .before .pre .1 in
+    let taken = made-taken (a .reference .now) (a .first .now) (a .second .now) (a .table .now) (a .choices) (a .ends) (a .score) (a .n) (a .left) (p .0 .few) (c .before .before .before .before .before .before .before .before .before .before .before .before .before .before .before .before .before .if1 .left) (p .1) (p .2) (c .before .before .before .before .before .before .before .before .before .before .before .before .before .before .before .before .row-at .result) (c .before .before .before .before .before .before .before .before .before .before .before .before .before .end-by .result) (c .before .before .before .before .before .before .before .before .before .before .before .before .before .before .before .before .row-at .ensures) (c .before .before .before .before .before .before .before .before .before .before .before .before .before .end-by .ensures) minus _ (c .before .before .before .before .before .before .before .before .before .ends-after .result) tt (set-set (a .choices) (a .n - a .left) 43 45) (c .before .before .before .before .before .before .before .before .before .ends-after .ensures) (c .before .before .before .before .before .before .before .before .before .before .before .if3 .taken) in (
+      omega (arith, c .before .before .before .before .before .before .before .before .before .before .before .before .before .before .before .before .before .before .before .before .before .before .before .before .pre .0, c .before .before .before .before .before .before .before .before .before .before .before .before .before .before .before .before .before .if1 .left),
+      (ready-room (a .reference .now) (a .first .now) (a .second .now) (a .table .now) (a .n) (a .from) (a .to) _ _ _ _ (p .0) (omega (arith, c .before .before .before .before .before .before .search .kept .1 .1 .1 .1 .1 .1 .1 .1 .1 .1 .1 .0)) (omega (arith, c .before .before .before .before .before .before .search .kept .1 .1 .1 .1 .1 .1 .1 .1 .1 .1 .1 .1 .0)), omega (arith, p .1), taken),
+    )
+
+search-sub-search-3 : (t : ℕ) → search-lts.Need-sub-search-3 (calls t) (search-at t) search′.Post
+search-sub-search-3 t c = omega arith
+
+search-search-requires-3 : (t : ℕ) → search-lts.Need-search-requires-3 (calls t) (search-at t) search′.Post
+search-search-requires-3 t c κs =
+    let a = c .before .before .before .before .before .before .before .before .before .before .before .before .before .before .before .args in
+    let p = c .before .before .before .before .before .before .before .before .before .before .before .before .before .before .before .pre .1 in (
+      omega (arith, c .before .before .before .before .before .before .before .before .before .before .before .before .before .before .before .pre .0, c .before .before .before .before .before .before .before .before .if1 .left),
+      (ready-room (a .reference .now) (a .first .now) (a .second .now) (a .table .now) (a .n) (a .from) (a .to) _ _ _ _ (p .0) (joined-mine t (c .before .before)) (joined-other t (c .before .before)), omega (arith, p .1), made-skipped (a .reference .now) (a .first .now) (a .second .now) (a .table .now) (a .choices) (a .ends) (a .score) (a .n) (a .left) (p .0 .few) (c .before .before .before .before .before .before .before .before .if1 .left) (p .1) (p .2)),
+    )
+
+search-better-requires : (t : ℕ) → search-lts.Need-better-requires (calls t) (search-at t) search′.Post
+search-better-requires t c κs = c .before .before .before .before .before .before .before .before .before .before .before .before .before .before .before .before .before .before .before .before .pre .1 .0 .few
+
+search-better-requires-2 : (t : ℕ) → search-lts.Need-better-requires-2 (calls t) (search-at t) search′.Post
+search-better-requires-2 t c κs = c .before .before .before .before .before .before .before .before .before .before .before .before .before .before .before .before .before .before .before .before .before .pre .1 .0 .few
+
+search-same-length-5 : (t : ℕ) → search-lts.Need-same-length-5 (calls t) (search-at t) search′.Post
+search-same-length-5 t c = omega (arith, c .before .before .before .before .before .before .search3 .kept .1 .1 .1 .1 .1 .1 .1 .1 .1 .1 .1 .0, joined-mine t (c .before .before .before .before .before .before .before .before .before))
+
+search-same-length-6 : (t : ℕ) → search-lts.Need-same-length-6 (calls t) (search-at t) search′.Post
+search-same-length-6 t c = omega (arith, c .before .before .before .before .before .before .search3 .kept .1 .1 .1 .1 .1 .1 .1 .1 .1 .1 .1 .1 .0, joined-other t (c .before .before .before .before .before .before .before .before .before))
+
+search-returns-3 : (t : ℕ) → search-lts.Need-returns-3 (calls t) (search-at t) search′.Post
+search-returns-3 t c =
+    let a = c .before .before .before .before .before .before .before .before .before .before .before .before .before .before .before .before .before .before .before .before .before .before .args in
+    let p = c .before .before .before .before .before .before .before .before .before .before .before .before .before .before .before .before .before .before .before .before .before .before .pre .1 in
+    let x = c .before .before .before .before .before .before .before .before .before .if3 .x in
+    let y = c .before .before .before .before .before .before .before .before .before .if3 .y in
+    ⊎-elim
+    (λ w. search-taken (a .reference .now) (a .first .now) (a .second .now) (a .table .now) (a .choices) (a .ends) (a .score) (a .n) (a .left) (p .0 .few) (c .before .before .before .before .before .before .before .before .before .before .before .before .before .before .before .if1 .left) (p .1) (p .2) (c .before .before .before .before .before .before .before .before .before .before .before .before .before .before .row-at .result) (c .before .before .before .before .before .before .before .before .before .before .before .end-by .result) (c .before .before .before .before .before .before .before .before .before .before .before .before .before .before .row-at .ensures) (c .before .before .before .before .before .before .before .before .before .before .before .end-by .ensures) x y (c .before .before .before .before .before .before .search3 .result) (c .before .better .result) (c .better2 .result)
+    (c .before .before .before .before .before .before .search3 .ensures) (c .before .better .ensures) (c .better2 .ensures)
+    _ _ refl (set-set (a .choices) (a .n - a .left) 43 45) (w .0 .taken) (w .19 ∙ w .5 .ensures) (w .20 ∙ w .12 .ensures))
+    (λ w. search-skipped (a .reference .now) (a .first .now) (a .second .now) (a .table .now) (a .choices) (a .ends) (a .score) (a .n) (a .left) (p .0 .few) (c .before .before .before .before .before .before .before .before .before .before .before .before .before .before .before .if1 .left) (p .1) (p .2) (c .before .before .before .before .before .before .before .before .before .before .before .before .before .before .row-at .result) (c .before .before .before .before .before .before .before .before .before .before .before .end-by .result) (c .before .before .before .before .before .before .before .before .before .before .before .before .before .before .row-at .ensures) (c .before .before .before .before .before .before .before .before .before .before .before .end-by .ensures) x y (c .before .before .before .before .before .before .search3 .result) (c .before .better .result) (c .better2 .result)
+    (c .before .before .before .before .before .before .search3 .ensures) (c .before .better .ensures) (c .better2 .ensures)
+    (w .0 .left) (w .3 ∙ c .before .before .before .before .before .before .before .before .before .before .before .before .before .nothing2 .ensures) (w .4 ∙ c .before .before .before .before .before .before .before .before .before .before .before .before .nothing3 .ensures))
+    (c .before .before .before .before .before .before .before .before .before .if3 .came)
+
+pub +search-spec : {M : Type 1} → statement M
++search-spec =
+    close μ-search λ t. search-lts.spec (calls t) (search-at t) search′.Post
+    (search-is-legal-requires t)
+    (search-same-length t)
+    (search-same-length-2 t)
+    (search-returns t)
+    (search-nothing-requires t)
+    (search-same-length-3 t)
+    (search-same-length-4 t)
+    (search-returns-2 t)
+    (search-sub-at t)
+    (search-row-at-requires t)
+    (search-nothing-requires-2 t)
+    (search-nothing-requires-3 t)
+    (search-end-by-requires t)
+    (search-add-ends-after t)
+    (search-ends-after-requires t)
+    (search-array-write-next t)
+    (search-sub-search t)
+    (search-add-search t)
+    (search-search-requires t)
+    (search-array-write-next-2 t)
+    (search-sub-search-2 t)
+    (search-add-search-2 t)
+    (search-search-requires-2 t)
+    (search-sub-search-3 t)
+    (search-search-requires-3 t)
+    (search-better-requires t)
+    (search-better-requires-2 t)
+    (search-same-length-5 t)
+    (search-same-length-6 t)
+    (search-returns-3 t)

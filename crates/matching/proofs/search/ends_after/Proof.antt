@@ -1,0 +1,12 @@
+-- `matching::search::ends_after` meets its contract. Assumes nothing.
+use Rattle.matching.proofs.search.ends_after.Statement.{statement}
+use Rattle.matching.proofs.search.ends_after.Tie as tie
+
+returns : tie.Need-returns
+returns c = rw (c .if1 .taken)
+
+returns-2 : tie.Need-returns-2
+returns-2 c = rw (c .if1 .left)
+
+pub ends-after-spec : {M : Type 1} → statement M
+ends-after-spec = tie.close (tie.spec returns returns-2)

@@ -1,0 +1,231 @@
+// The search for the best choices of a cluster: entry by entry, each choice followed by rank over all remaining entries.
+ghost use mathlib.Core.Path.{_≡_};
+ghost use Prim.Native.Nat.{_-_, _≤_};
+ghost use lib.ListN.{length};
+ghost use Rattle.bases.specs.Letter.{basesOf};
+ghost use Rattle.donors.specs.Agree.{Ready};
+ghost use Rattle.donors.specs.Table.{variantsFrom, choicesFrom};
+ghost use Rattle.matching.specs.Made.{endBy, endsAfter, Kept, cardLegal?, Made, answerFrom, bestAnswer};
+use crate::answer::Best;
+use crate::answer::better;
+use crate::answer::nothing;
+use donors::agree::donors_agree;
+use donors::table::MOST;
+use donors::table::Row;
+use donors::table::row_at;
+
+// Where the last chosen entry of each list ends: 0 where none is chosen.
+pub struct Ends {
+    pub first: usize,
+    pub second: usize,
+}
+
+// Where the last chosen entry of list 1 (or 2) ends.
+fn end_by(ends: Ends, first: bool) -> usize
+    ensures { λ r. ⌜ r ≡ endBy ends first ⌝ }
+{
+    if first {
+        return ends.first;
+    }
+    ends.second
+}
+
+// The ends after an entry of list 1 (or 2) that ends there is chosen.
+fn ends_after(ends: Ends, first: bool, end: usize) -> Ends
+    ensures { λ r. ⌜ r ≡ endsAfter ends first end ⌝ }
+{
+    if first {
+        return Ends {
+            first: end,
+            second: ends.second,
+        };
+    }
+    Ends {
+        first: ends.first,
+        second: end,
+    }
+}
+
+// Are n choices that do not overlap legal? They are exactly if the two lists' donors agree on copy 0 and on copy 1.
+// `mine` and `other` are room to build in: what is left there is not told.
+fn is_legal(
+    reference: &[u8],
+    first: &[u8],
+    second: &[u8],
+    table: &[usize],
+    n: usize,
+    choices: [u8; MOST],
+    from: usize,
+    to: usize,
+    mine: &mut [u8],
+    other: &mut [u8],
+) -> bool
+    requires { ⌜ Ready (now reference) (now first) (now second) (now table) n from to (length (now mine)) (length (now other)) × Kept (variantsFrom (now reference) (now first) (now second) (now table) 0 n) (choicesFrom choices 0 n) ⌝ }
+    ensures { λ r. ⌜ r ≡ cardLegal? (basesOf (now (reference .entry))) (variantsFrom (now (reference .entry)) (now (first .entry)) (now (second .entry)) (now (table .entry)) 0 n) (choicesFrom choices 0 n) ⌝ }
+{
+    if !donors_agree(
+        reference,
+        first,
+        second,
+        table,
+        n,
+        choices,
+        0,
+        from,
+        to,
+        mine,
+        other,
+    ) {
+        return false;
+    }
+    donors_agree(
+        reference,
+        first,
+        second,
+        table,
+        n,
+        choices,
+        1,
+        from,
+        to,
+        mine,
+        other,
+    )
+}
+
+// The best legal choices that go on from those made, with `left` of the n entries left. Beside the choices made go the ends of each list and their score:
+// below a choice that overlaps an earlier one of its list nothing is tried. Behind the choices made the array has `0`.
+fn search(
+    reference: &[u8],
+    first: &[u8],
+    second: &[u8],
+    table: &[usize],
+    n: usize,
+    left: usize,
+    choices: [u8; MOST],
+    ends: Ends,
+    score: usize,
+    from: usize,
+    to: usize,
+    mine: &mut [u8],
+    other: &mut [u8],
+) -> Best
+    requires { ⌜ Ready (now reference) (now first) (now second) (now table) n from to (length (now mine)) (length (now other)) × (left ≤ n) × Made (variantsFrom (now reference) (now first) (now second) (now table) 0 n) (choicesFrom choices 0 (n - left)) choices ends score ⌝ }
+    ensures { λ r. ⌜ r ≡ answerFrom (basesOf (now (reference .entry))) (variantsFrom (now (reference .entry)) (now (first .entry)) (now (second .entry)) (now (table .entry)) 0 n) left (choicesFrom choices 0 (n - left)) ⌝ }
+{
+    if left == 0 {
+        if is_legal(
+            reference,
+            first,
+            second,
+            table,
+            n,
+            choices,
+            from,
+            to,
+            mine,
+            other,
+        ) {
+            return Best {
+                score,
+                found: true,
+                choices,
+            };
+        }
+        return nothing();
+    }
+    let at = n - left;
+    let row = row_at(table, at);
+    let mut x = nothing();
+    let mut y = nothing();
+    if end_by(ends, row.first) <= row.start {
+        let after = ends_after(ends, row.first, row.start + row.len);
+        let mut next = choices;
+        next[at] = b'+';
+        x = search(
+            reference,
+            first,
+            second,
+            table,
+            n,
+            left - 1,
+            next,
+            after,
+            score + 1,
+            from,
+            to,
+            mine,
+            other,
+        );
+        next[at] = b'-';
+        y = search(
+            reference,
+            first,
+            second,
+            table,
+            n,
+            left - 1,
+            next,
+            after,
+            score + 1,
+            from,
+            to,
+            mine,
+            other,
+        );
+    }
+    let z = search(
+        reference,
+        first,
+        second,
+        table,
+        n,
+        left - 1,
+        choices,
+        ends,
+        score,
+        from,
+        to,
+        mine,
+        other,
+    );
+    better(n, x, better(n, y, z))
+}
+
+// The best choices for the first n entries of the table: the highest score, and among equals the first in dictionary order. All entries lie between places
+// `from` and `to` of the reference. Behind the n choices the array has `0`. `mine` and `other` are room to build in: what is left there is not told.
+pub fn best_choices(
+    reference: &[u8],
+    first: &[u8],
+    second: &[u8],
+    table: &[usize],
+    n: usize,
+    from: usize,
+    to: usize,
+    mine: &mut [u8],
+    other: &mut [u8],
+) -> Best
+    requires { ⌜ Ready (now reference) (now first) (now second) (now table) n from to (length (now mine)) (length (now other)) ⌝ }
+    ensures { λ r. ⌜ r ≡ bestAnswer (basesOf (now (reference .entry))) (variantsFrom (now (reference .entry)) (now (first .entry)) (now (second .entry)) (now (table .entry)) 0 n) ⌝ }
+{
+    let choices = [b'0'; MOST];
+    let ends = Ends {
+        first: 0,
+        second: 0,
+    };
+    search(
+        reference,
+        first,
+        second,
+        table,
+        n,
+        n,
+        choices,
+        ends,
+        0,
+        from,
+        to,
+        mine,
+        other,
+    )
+}

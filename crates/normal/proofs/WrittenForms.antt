@@ -1,0 +1,177 @@
+-- What is read of a written list: the normal forms of the entries read, by new POS, equal POS in the order read.
+--     lineForm, line-form      the entry on a line, which is the entry there in a text
+--     entry-forms              the entries of an accepted list, line by line
+--     putRead, inOrder         the records read, by new POS, equal POS in the order read
+--     written-normal           each record's line is written as its normal form: the same donor, ALT by ALT
+--     written-forms            reading the written list gives the normal forms in order
+-- Assumes nothing.
+use mathlib.Core.Bool.{Bool, true, false}
+use mathlib.Core.List.{List, [], _∷_, _++_, map}
+use mathlib.Core.Path.{_≡_, refl, sym, ap, subst, _∙_}
+use Prim.Native.Nat.{ℕ, zero, suc, _+_, _-_, _≤_, _<_}
+use native.Mathlib.Omega.{arith}
+use lib.Dec.{T, eqb, ltb, lit<}
+use lib.ListN.{length, take, drop}
+use lib.Seq.{take-at, drop-append-add, drop-drop}
+use Rattle.bases.specs.Letter.{pick, basesOf}
+use Rattle.bases.specs.Reference.{isReference?}
+use Rattle.bases.proofs.PartLaws.{part-part}
+use Rattle.vcf.specs.declared.entry.Entry.{Entry}
+use Rattle.vcf.specs.Allele.{altCount}
+use Rattle.vcf.specs.Bytes.{LF, COMMA, until}
+use Rattle.vcf.specs.Entry.{part, bytesOf, entryOf, recordsAt, entriesFrom, entriesOf}
+use Rattle.vcf.specs.Field.{field, fieldAt}
+use Rattle.vcf.specs.List.{pickLines, linesOf, judgeText}
+use Rattle.vcf.specs.Record.{posOn}
+use Rattle.vcf.proofs.RecordLineLaws.{RecordLine, record-line}
+use Rattle.normal.specs.Form.{Form, NormalForm}
+use Rattle.normal.specs.Cut.{normalOf}
+use Rattle.normal.specs.Spelled.{pickPart, pickAlts, formOf, Within, Stands, formSpelled}
+use Rattle.normal.specs.Written.{newOn, newPos, writtenLine, putLine, writtenLines, textOf, writtenText}
+use Rattle.normal.proofs.HeaderLaws.{recordsOf}
+use Rattle.normal.proofs.NormalEntry.{normal-entry-form}
+use Rattle.normal.proofs.RecordEntryLaws.{line-stands, line-normal}
+use Rattle.normal.proofs.TextLaws.{All, all-map}
+use Rattle.normal.proofs.WithoutLaws.{Without}
+use Rattle.normal.proofs.WrittenAgain.{alts-same, same-form, written-form}
+use Rattle.normal.proofs.WrittenLine.{written-pos}
+use Rattle.normal.proofs.WrittenList.{Read, Wrote, record-part, record-lines, all-read, all-wrote, written-accepted, written-lines}
+use Rattle.normal.proofs.WrittenRows.{letters-of, fits-of}
+
+-- What the entry on a line spells.
+abbrev pub lineForm : List ℕ → List ℕ → Form
+lineForm reference l = formOf reference l (entryOf l 0)
+
+-- The line l stands at a in the text t.
+module _ (t : List ℕ) (a : ℕ) (l : List ℕ) (there : take (length l) (drop a t) ≡ l) where
+  bytes-in : (p q s n : ℕ) → q ≡ a + p → s ≡ p → p + n ≤ length l → take n (drop q t) ≡ take n (drop s l)
+  bytes-in p q s n e f h = rw (e, f) (sym (part-part t a (length l) p n h) ∙ ap (λ (x : List ℕ). take n (drop p x)) there)
+
+  pub line-form : (reference : List ℕ) → Stands reference l (entryOf l 0) → formOf reference t (entryOf l a) ≡ lineForm reference l
+  line-form reference st = same-form refl refl (alts-same (eqb (altCount (field 4 l)) 2) first (second (eqb (altCount (field 4 l)) 2) (st .second)))
+    where
+      first : basesOf (bytesOf t (entryOf l a .first)) ≡ basesOf (bytesOf l (entryOf l 0 .first))
+      first = ap basesOf (bytes-in (fieldAt 4 l) (a + fieldAt 4 l) (0 + fieldAt 4 l) (until COMMA (field 4 l)) refl (omega arith) (omega (arith, st .first .1)))
+
+      second : (u : Bool) → Within l (pickPart u (entryOf l 0 .second) (entryOf l 0 .first)) → T u → basesOf (bytesOf t (entryOf l a .second)) ≡ basesOf (bytesOf l (entryOf l 0 .second))
+      second true w v =
+          ap basesOf (bytes-in (fieldAt 4 l + until COMMA (field 4 l) + 1) (entryOf l a .second .at) (entryOf l 0 .second .at) (entryOf l 0 .second .len) (omega arith) (omega arith) (omega (arith, w .1)))
+      second false w v = absurd v
+
+forms-from : (reference t : List ℕ) (a : ℕ) (ls : List (List ℕ)) → drop a t ≡ textOf ls → All (λ l. Stands reference l (entryOf l 0)) ls
+    → map (formOf reference t) (entriesFrom a ls) ≡ map (lineForm reference) ls
+unfolding entriesFrom textOf
+forms-from reference t a [] e h = refl
+forms-from reference t a (l ∷ ls) e h =
+    let here : take (length l) (drop a t) ≡ l = ap (take (length l)) e ∙ take-at l (LF ∷ textOf ls) (length l) refl in
+    let n : a + length l + 1 ≡ a + (length l + 1) = omega arith in
+    let next : drop (a + length l + 1) t ≡ textOf ls =
+    ap (λ (z : ℕ). drop z t) n ∙ sym (drop-drop (length l + 1) a t) ∙ ap (drop (length l + 1)) e ∙ drop-append-add l (LF ∷ textOf ls) 1 in
+    let first = line-form t a l here reference (h .0) in
+    let more = forms-from reference t (a + length l + 1) ls next (h .1) in
+    cc
+
+module _ (reference : List ℕ) where
+  -- A record read, put among records by new POS: behind each whose new POS is not above its own.
+  unfoldable pub putRead : List ℕ → List (List ℕ) → List (List ℕ)
+  putRead l [] = l ∷ []
+  putRead l (m ∷ ms) = let more = putRead l ms in pickLines (ltb (newPos reference l) (newPos reference m)) (l ∷ m ∷ ms) (m ∷ more)
+
+  -- The records read, by new POS, equal POS in the order read.
+  unfoldable pub inOrder : List (List ℕ) → List (List ℕ) → List (List ℕ)
+  inOrder done [] = done
+  inOrder done (l ∷ ls) = inOrder (putRead l done) ls
+
+  put-read-all : (P : List ℕ → Type 0) (l : List ℕ) (ms : List (List ℕ)) → P l → All P ms → All P (putRead l ms)
+  unfolding putRead
+  put-read-all P l [] h k = (h, tt)
+  put-read-all P l (m ∷ ms) h k = go (ltb (newPos reference l) (newPos reference m)) (put-read-all P l ms h (k .1))
+    where
+      go : (u : Bool) → All P (putRead l ms) → All P (pickLines u (l ∷ m ∷ ms) (m ∷ putRead l ms))
+      go true r = (h, k)
+      go false r = (k .0, r)
+
+  in-order-all : (P : List ℕ → Type 0) (done ls : List (List ℕ)) → All P done → All P ls → All P (inOrder done ls)
+  unfolding inOrder
+  in-order-all P done [] h k = h
+  in-order-all P done (l ∷ ls) h k = in-order-all P (putRead l done) ls (put-read-all P l done (k .0) h) (k .1)
+
+  -- A line is written at its new POS.
+  abbrev At : List ℕ → Type 0
+  At l = posOn (writtenLine reference l) ≡ newPos reference l
+
+  put-map : (l : List ℕ) (ms : List (List ℕ)) → At l → All At ms → putLine (writtenLine reference l) (map (writtenLine reference) ms) ≡ map (writtenLine reference) (putRead l ms)
+  unfolding putLine putRead
+  put-map l [] h k = refl
+  put-map l (m ∷ ms) h k = rw (h, k .0) (go (ltb (newPos reference l) (newPos reference m)) (put-map l ms h (k .1)))
+    where
+      go : (u : Bool) → putLine (writtenLine reference l) (map (writtenLine reference) ms) ≡ map (writtenLine reference) (putRead l ms)
+          → pickLines u (writtenLine reference l ∷ writtenLine reference m ∷ map (writtenLine reference) ms) (writtenLine reference m ∷ putLine (writtenLine reference l) (map (writtenLine reference) ms))
+          ≡ map (writtenLine reference) (pickLines u (l ∷ m ∷ ms) (m ∷ putRead l ms))
+      go true r = refl
+      go false r = ap (λ (z : List (List ℕ)). writtenLine reference m ∷ z) r
+
+  pub written-in-order : (done ls : List (List ℕ)) → All At done → All At ls → writtenLines reference (map (writtenLine reference) done) ls ≡ map (writtenLine reference) (inOrder done ls)
+  unfolding writtenLines inOrder
+  written-in-order done [] h k = refl
+  written-in-order done (l ∷ ls) h k = rw (put-map l done (k .0) h) (written-in-order (putRead l done) ls (put-read-all At l done (k .0) h) (k .1))
+
+map-all : {A : Type 0} (F G : List ℕ → A) (P : List ℕ → Type 0) → ((l : List ℕ) → P l → F l ≡ G l) → (ls : List (List ℕ)) → All P ls → map F ls ≡ map G ls
+map-all F G P f [] h = refl
+map-all F G P f (l ∷ ls) h = let a = f l (h .0) in let b = map-all F G P f ls (h .1) in cc
+
+map-map : {A : Type 0} (F : List ℕ → A) (G : List ℕ → List ℕ) (ls : List (List ℕ)) → map F (map G ls) ≡ map (λ l. F (G l)) ls
+map-map F G [] = refl
+map-map F G (l ∷ ls) = ap (λ z. F (G l) ∷ z) (map-map F G ls)
+
+module _ (reference name : List ℕ) (ok : T (isReference? reference)) where
+  read-stands : (l : List ℕ) → Read reference name ok l → Stands reference l (entryOf l 0)
+  read-stands l r = line-stands reference l (letters-of reference ok) (r .free) (r .line)
+
+  wrote-stands : (m : List ℕ) → Wrote reference name ok m → Stands reference m (entryOf m 0)
+  wrote-stands m w =
+      line-stands reference m (letters-of reference ok) (w .free) (record-line reference name 0 0 m (w .rows 0 0 (lit< tt) (omega arith)))
+
+  written-line-form : (l : List ℕ) → Read reference name ok l → lineForm reference (writtenLine reference l) ≡ formSpelled reference l (altCount (field 4 l)) (newOn reference l)
+  written-line-form l r =
+      written-form reference l (letters-of reference ok) (r .free) (r .line) (fits-of reference ok)
+      (record-line reference name 0 0 (writtenLine reference l) (r .rows 0 0 (lit< tt) (omega arith)))
+
+  pub written-normal : (l : List ℕ) → Read reference name ok l → NormalForm (basesOf reference) (lineForm reference l) (lineForm reference (writtenLine reference l))
+  written-normal l r = rw (written-line-form l r) (line-normal reference l (letters-of reference ok) (r .free) (r .line))
+
+  normal-line-form : (l : List ℕ) → Read reference name ok l → lineForm reference (writtenLine reference l) ≡ normalOf (basesOf reference) (lineForm reference l)
+  normal-line-form l r = written-line-form l r ∙ normal-entry-form reference l (entryOf l 0) (read-stands l r)
+
+  module _ (t : List ℕ) (accepted : judgeText reference name t .number ≡ 0) where
+    abbrev rs : List (List ℕ)
+    rs = recordsOf (linesOf t)
+
+    abbrev w : List ℕ
+    w = writtenText reference t
+
+    pub entry-forms : map (formOf reference t) (entriesOf t) ≡ map (lineForm reference) rs
+    entry-forms =
+        ap (λ (ls : List (List ℕ)). map (formOf reference t) (entriesFrom (recordsAt t) ls)) (record-lines reference name ok t accepted)
+        ∙ forms-from reference t (recordsAt t) rs (record-part reference name ok t accepted)
+        (all-map (Read reference name ok) (λ l. Stands reference l (entryOf l 0)) read-stands rs (all-read reference name ok t accepted))
+
+    ws-forms : map (formOf reference w) (entriesOf w) ≡ map (lineForm reference) (writtenLines reference [] rs)
+    ws-forms =
+        let e = written-lines reference name ok t accepted in
+        let a = written-accepted reference name ok t accepted in
+        let r = record-lines reference name ok w a in
+        ap (λ (ls : List (List ℕ)). map (formOf reference w) (entriesFrom (recordsAt w) ls)) e
+        ∙ forms-from reference w (recordsAt w) (writtenLines reference [] rs) (record-part reference name ok w a ∙ ap textOf (sym r ∙ e))
+        (all-map (Wrote reference name ok) (λ l. Stands reference l (entryOf l 0)) wrote-stands (writtenLines reference [] rs) (all-wrote reference name ok t accepted))
+
+    pub written-forms : map (formOf reference w) (entriesOf w) ≡ map (λ l. normalOf (basesOf reference) (lineForm reference l)) (inOrder reference [] rs)
+    written-forms =
+        let read = all-read reference name ok t accepted in
+        let at = all-map (Read reference name ok) (At reference) (λ l r. written-pos reference l (letters-of reference ok) (r .free) (r .line) (fits-of reference ok)) rs read in
+        let os = inOrder reference [] rs in
+        ws-forms
+        ∙ ap (map (lineForm reference)) (written-in-order reference [] rs tt at)
+        ∙ map-map (lineForm reference) (writtenLine reference) os
+        ∙ map-all (λ l. lineForm reference (writtenLine reference l)) (λ l. normalOf (basesOf reference) (lineForm reference l)) (Read reference name ok) normal-line-form os
+        (in-order-all reference (Read reference name ok) [] rs tt read)
