@@ -1,12 +1,14 @@
 -- The entries of accepted texts.
 --     copies-named                     the copies' numbers name alleles that the entry has
+--     ref-allele, first-alt-allele, second-alt-allele
+--                                      alleles 0, 1 and 2 are the bases of REF and of the ALTs of the entry's line
 --     entry-sound                      what is so of a record's entry, from the rows that do not hold on its line
 --     entries-all, entries-sound       of each entry from a place on
 --     entries-sorted                   POS is not below that of an entry before
 -- Assumes nothing.
 use mathlib.Core.Bool.{Bool, true, false, _&&_}
 use mathlib.Core.List.{List, [], _∷_}
-use mathlib.Core.Path.{_≡_, _∙_}
+use mathlib.Core.Path.{_≡_, sym, ap, _∙_}
 use Prim.Native.Nat.{ℕ, zero, suc, _+_, _-_, _≤_, _<_}
 use native.Mathlib.Decide.{decLt}
 use native.Mathlib.Omega.{arith}
@@ -30,7 +32,7 @@ use Rattle.vcf.specs.Record.{posOn, genotypeOn}
 use Rattle.vcf.proofs.AcceptedLaws.{Records, RecordsFrom, records-here, records-next}
 use Rattle.vcf.proofs.BytesLaws.{until-le}
 use Rattle.vcf.proofs.EntryLaws.{entriesAt, entries-at, entries-past}
-use Rattle.vcf.proofs.PartLaws.{first-within, second-within}
+use Rattle.vcf.proofs.PartLaws.{first-within, second-within, first-bytes, second-bytes}
 use Rattle.vcf.proofs.RecordLineLaws.{RecordLine, record-line, first-allele, second-allele}
 use Rattle.clusters.specs.Item.{startOf, alleleOf, lenOf, Sound}
 use Rattle.clusters.proofs.MergedLaws.{SortedBy}
@@ -82,6 +84,15 @@ module _ (reference t : List ℕ) (a : ℕ) (inside : a < length t) (line : Reco
   allele-short (suc (suc k)) h =
       let f = field 4 (lineAt t a) in
       omega (arith, allele-size (secondAlt f) (second-allele (field 3 (lineAt t a)) f (line .alts) (two k h)) .1, length-drop (until COMMA f + 1) f)
+
+  pub ref-allele : alleleOf reference t (entryOf (lineAt t a) a) 0 ≡ basesOf (field 3 (lineAt t a))
+  ref-allele = sym (line .same)
+
+  pub first-alt-allele : alleleOf reference t (entryOf (lineAt t a) a) 1 ≡ basesOf (firstAlt (field 4 (lineAt t a)))
+  first-alt-allele = ap basesOf (first-bytes t a (omega arith) (line .ten))
+
+  pub second-alt-allele : T (twoAlts? (field 4 (lineAt t a))) → alleleOf reference t (entryOf (lineAt t a) a) 2 ≡ basesOf (secondAlt (field 4 (lineAt t a)))
+  second-alt-allele h = ap basesOf (second-bytes t a (omega arith) (line .ten) h)
 
   pub entry-sound : Sound reference t (entryOf (lineAt t a) a)
   entry-sound =

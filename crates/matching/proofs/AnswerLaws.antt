@@ -4,9 +4,7 @@
 --     bytes-sooner, bytes-later, bytes-alike, bytes-past
 --                         dictionary order by the bytes from place i on: by the bytes at i, and at the end
 --     byte-order          the bytes `+`, `-` and `0` stand in the order of their ranks
---     array-bytes         the front of an array has the bytes of its choices
---     array-choices       and so the choices can be read there
---     array-length        an array has twelve bytes
+--     array-choices       choices are read again where they stand in an array
 --     array-more          to make one more choice is to write one byte
 --     array-out           which stands there already where an entry is left out
 --     choices-length      as many choices are read as asked for
@@ -22,7 +20,7 @@ use Prim.Native.Nat.{ℕ, zero, suc, _+_, _-_, _≤_, _<_}
 use native.Mathlib.Numerals.{add-one}
 use native.Mathlib.Omega.{arith}
 use borrow.Author.Tests.{lt-ltb, le-ltb, eq-eqb, ne-eqb}
-use lib.ListN.{length, getD, set, replicate, length-append, length-replicate}
+use lib.ListN.{length, getD, set, replicate, length-append}
 use lib.Seq.{set-at}
 use Rattle.donors.specs.Choice.{Choice, plus, minus, out, Variant}
 use Rattle.donors.specs.Table.{most, choiceOf, choicesFrom}
@@ -91,13 +89,9 @@ length-bytes : (φ : List Choice) → length (map byteOf φ) ≡ length φ
 length-bytes [] = refl
 length-bytes (c ∷ φ) = ap suc (length-bytes φ)
 
-pub array-bytes : (φ : List Choice) (n : ℕ) → length φ ≡ n → bytesFrom (arrayOf φ) 0 n ≡ map byteOf φ
+array-bytes : (φ : List Choice) (n : ℕ) → length φ ≡ n → bytesFrom (arrayOf φ) 0 n ≡ map byteOf φ
 unfolding arrayOf
 array-bytes φ n e = rw (sym (length-bytes φ ∙ e)) (bytes-front (map byteOf φ) (replicate (most - length φ) 48))
-
-pub array-length : (φ : List Choice) → length φ ≤ most → length (arrayOf φ) ≡ most
-unfolding arrayOf
-array-length φ h = omega (arith, length-append (map byteOf φ) (replicate (most - length φ) 48), length-bytes φ, length-replicate {A = ℕ} (most - length φ) 48)
 
 choices-bytes : (c : List ℕ) (i n : ℕ) → choicesFrom c i n ≡ map choiceOf (bytesFrom c i n)
 unfolding choicesFrom bytesFrom

@@ -5,6 +5,7 @@ pub mod BestOfLaws
 pub mod CardBest
 pub mod ClusterLaws
 pub mod CutLaws
+pub mod Determines
 pub mod EntryLaws
 pub mod Examples
 pub mod GapLaws

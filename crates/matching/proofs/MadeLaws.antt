@@ -1,7 +1,5 @@
 -- Laws of the search midway: what one more choice does to what is carried.
 --     keep-words              choices are kept exactly if no list's edits overlap on a copy
---     reached-copies          where the last chosen entry ends is the same on both copies
---     kept-out, kept-chosen   left out, an entry overlaps nothing; nor does it chosen, where it starts at its list's end or behind it
 --     dropped                 chosen, an entry that starts before its list's end overlaps
 --     made-out, made-chosen   what is carried, after an entry is left out, and after it is chosen
 --     made-reads              the choices made are read in the array
@@ -25,7 +23,7 @@ use Rattle.donors.specs.Rules.{put, editOf, takes?, edits}
 use Rattle.donors.specs.Table.{most, choicesFrom}
 use Rattle.donors.proofs.EditLaws.{edits-append}
 use Rattle.donors.proofs.TableLaws.{taken-side}
-use Rattle.matching.specs.declared.search.Ends.{Ends}
+use Rattle.matching.specs.declared.ends.Ends.{Ends}
 use Rattle.matching.specs.Answer.{byteOf, arrayOf}
 use Rattle.matching.specs.Best.{score}
 use Rattle.matching.specs.BestOf.{allowed?, apart?, keep?}
@@ -57,7 +55,7 @@ unfolding reached
 reached-put true e f es fs a k g = ap (λ (b : ℕ). reached b es) k ∙ g (end f)
 reached-put false e f es fs a k g = g a
 
-pub reached-copies : (j : Bool) (h : Copy) (xs : List Variant) (φ : List Choice) (a : ℕ) → reached a (edits cardRules j h xs φ) ≡ reached a (edits cardRules j copy0 xs φ)
+reached-copies : (j : Bool) (h : Copy) (xs : List Variant) (φ : List Choice) (a : ℕ) → reached a (edits cardRules j h xs φ) ≡ reached a (edits cardRules j copy0 xs φ)
 unfolding edits reached
 reached-copies j h [] φ a = refl
 reached-copies j h (x ∷ xs) [] a = refl
@@ -137,7 +135,7 @@ module _ (us : List Variant) (x : Variant) (vs : List Variant) (φ : List Choice
   kept-put j h c true f k = chain-one 0 (edits cardRules j h xs φ) (editOf cardRules x c h) .1 (k, f tt)
   kept-put j h c false f k = rw (append-nil (edits cardRules j h xs φ)) k
 
-  pub kept-chosen : (c : Choice) → (T (chosen? c) → endOf (x .side) xs φ ≤ x .start) → Kept xs φ → Kept xs (φ ++ (c ∷ []))
+  kept-chosen : (c : Choice) → (T (chosen? c) → endOf (x .side) xs φ ≤ x .start) → Kept xs φ → Kept xs (φ ++ (c ∷ []))
   kept-chosen c f k =
       keep-words xs (φ ++ (c ∷ [])) .1 (λ j h. rw (edits-one j h c) (kept-put j h c (takes? cardRules j h x c)
       (λ t. rw (reached-copies j h xs φ 0) (subst (λ (s : Bool). endOf s xs φ ≤ x .start) (taken-side j (x .side) (chosen? c) t) (f (both (Bool·beq j (x .side)) (chosen? c) .0 t .1))))

@@ -21,7 +21,7 @@ use Rattle.donors.specs.declared.table.Row.{Row}
 use Rattle.donors.specs.Choice.{Choice, plus, minus, out, Variant, chosen?, cardRules}
 use Rattle.donors.specs.Table.{most, rowAt, choicesFrom}
 use Rattle.matching.specs.declared.answer.Best.{Best}
-use Rattle.matching.specs.declared.search.Ends.{Ends}
+use Rattle.matching.specs.declared.ends.Ends.{Ends}
 use Rattle.matching.specs.Answer.{byteOf, nothingFound, answerOf, betterOf}
 use Rattle.matching.specs.Best.{score}
 use Rattle.matching.specs.BestOf.{keep?}

@@ -11,7 +11,7 @@ use Rattle.donors.specs.Choice.{Choice, copy0, Variant, cardRules}
 use Rattle.donors.specs.Donor.{Edit, end}
 use Rattle.donors.specs.Rules.{edits}
 use Rattle.matching.specs.declared.answer.Best.{Best}
-use Rattle.matching.specs.declared.search.Ends.{Ends}
+use Rattle.matching.specs.declared.ends.Ends.{Ends}
 use Rattle.matching.specs.Answer.{arrayOf, answerOf, theseChoices}
 use Rattle.matching.specs.Best.{score}
 use Rattle.matching.specs.BestOf.{keep?, legal?}

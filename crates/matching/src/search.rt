@@ -5,46 +5,16 @@ ghost use lib.ListN.{length};
 ghost use Rattle.bases.specs.Letter.{basesOf};
 ghost use Rattle.donors.specs.Agree.{Ready};
 ghost use Rattle.donors.specs.Table.{variantsFrom, choicesFrom};
-ghost use Rattle.matching.specs.Made.{endBy, endsAfter, Kept, cardLegal?, Made, answerFrom, bestAnswer};
+ghost use Rattle.matching.specs.Made.{Kept, cardLegal?, Made, answerFrom, bestAnswer};
 use crate::answer::Best;
 use crate::answer::better;
 use crate::answer::nothing;
+use crate::ends::Ends;
+use crate::ends::end_by;
+use crate::ends::ends_after;
 use donors::agree::donors_agree;
 use donors::table::MOST;
-use donors::table::Row;
 use donors::table::row_at;
-
-// Where the last chosen entry of each list ends: 0 where none is chosen.
-pub struct Ends {
-    pub first: usize,
-    pub second: usize,
-}
-
-// Where the last chosen entry of list 1 (or 2) ends.
-fn end_by(ends: Ends, first: bool) -> usize
-    ensures { λ r. ⌜ r ≡ endBy ends first ⌝ }
-{
-    if first {
-        return ends.first;
-    }
-    ends.second
-}
-
-// The ends after an entry of list 1 (or 2) that ends there is chosen.
-fn ends_after(ends: Ends, first: bool, end: usize) -> Ends
-    ensures { λ r. ⌜ r ≡ endsAfter ends first end ⌝ }
-{
-    if first {
-        return Ends {
-            first: end,
-            second: ends.second,
-        };
-    }
-    Ends {
-        first: ends.first,
-        second: end,
-    }
-}
 
 // Are n choices that do not overlap legal? They are exactly if the two lists' donors agree on copy 0 and on copy 1.
 // `mine` and `other` are room to build in: what is left there is not told.

@@ -19,8 +19,8 @@ use Rattle.matching.proofs.search.+search.Lts-search as search-lts
 use Rattle.donors.proofs.table.row_at.Reads as row-at-reads
 use Rattle.matching.proofs.answer.better.Reads as better-reads
 use Rattle.matching.proofs.answer.nothing.Reads as nothing-reads
-use Rattle.matching.proofs.search.end_by.Reads as end-by-reads
-use Rattle.matching.proofs.search.ends_after.Reads as ends-after-reads
+use Rattle.matching.proofs.ends.end_by.Reads as end-by-reads
+use Rattle.matching.proofs.ends.ends_after.Reads as ends-after-reads
 use Rattle.matching.proofs.search.is_legal.Reads as is-legal-reads
 use Rattle.matching.proofs.search.+search.{statement}
 use Rattle.matching.proofs.search.+search.Tie.{close}
@@ -53,6 +53,17 @@ calls t = (
   better-reads.Learnt,
 )
 
+-- the function's entry
+abbrev Start : ℕ → Type 0
+Start t = search-lts.Start (calls t) (search-at t) search′.Post
+
+-- the score so far is below the number of entries
+total-below : (t : ℕ) (s : Start t) → (s .args .left ≡ 0 → ⊥) → s .args .score < s .args .n
+total-below t s h =
+    let a = s .args in
+    let p = s .pre .1 in
+    made-total (a .reference .now) (a .first .now) (a .second .now) (a .table .now) (a .choices) (a .ends) (a .score) (a .n) (a .left) (p .0 .few) h (p .1) (p .2)
+
 -- the buffers keep their lengths on either way through the branch
 joined-mine : (t : ℕ) (c : search-lts.Joined3 (calls t) (search-at t) search′.Post) → length (c .before .before .before .before .before .before .before .before .before .before .before .before .before .args .mine .now) ≡ length (c .if3 .mine)
 joined-mine t c =
@@ -68,26 +79,11 @@ search-is-legal-requires t c κs =
     let p = c .before .before .before .before .before .before .before .before .before .pre .1 in
     (p .0, made-all (a .reference .now) (a .first .now) (a .second .now) (a .table .now) (a .choices) (a .ends) (a .score) (a .n) (a .left) (c .before .before .if1 .taken) (p .2))
 
-search-same-length : (t : ℕ) → search-lts.Need-same-length (calls t) (search-at t) search′.Post
-search-same-length t c = omega arith
-
-search-same-length-2 : (t : ℕ) → search-lts.Need-same-length-2 (calls t) (search-at t) search′.Post
-search-same-length-2 t c = omega arith
-
 search-returns : (t : ℕ) → search-lts.Need-returns (calls t) (search-at t) search′.Post
 search-returns t c =
     let a = c .before .before .before .before .before .before .before .before .before .before .before .before .before .before .before .args in
     search-found (a .reference .now) (a .first .now) (a .second .now) (a .table .now) (a .choices) (a .ends) (a .score) (a .n) (a .left) (c .before .before .before .before .before .before .before .before .if1 .taken) (c .before .before .before .before .before .before .before .before .before .before .before .before .before .before .before .pre .1 .2)
     (sym (c .before .before .before .before .before .is-legal .ensures) ∙ c .if2 .taken)
-
-search-nothing-requires : (t : ℕ) → search-lts.Need-nothing-requires (calls t) (search-at t) search′.Post
-search-nothing-requires t c κs = search needs
-
-search-same-length-3 : (t : ℕ) → search-lts.Need-same-length-3 (calls t) (search-at t) search′.Post
-search-same-length-3 t c = omega arith
-
-search-same-length-4 : (t : ℕ) → search-lts.Need-same-length-4 (calls t) (search-at t) search′.Post
-search-same-length-4 t c = omega arith
 
 search-returns-2 : (t : ℕ) → search-lts.Need-returns-2 (calls t) (search-at t) search′.Post
 search-returns-2 t c =
@@ -95,41 +91,17 @@ search-returns-2 t c =
     c .nothing .ensures ∙ search-none (a .reference .now) (a .first .now) (a .second .now) (a .table .now) (a .choices) (a .ends) (a .score) (a .n) (a .left) (c .before .before .before .before .before .before .before .before .before .if1 .taken) (c .before .before .before .before .before .before .before .before .before .before .before .before .before .before .before .before .pre .1 .2)
     (sym (c .before .before .before .before .before .before .is-legal .ensures) ∙ c .before .if2 .left)
 
-search-sub-at : (t : ℕ) → search-lts.Need-sub-at (calls t) (search-at t) search′.Post
-search-sub-at t c = omega arith
-
-search-row-at-requires : (t : ℕ) → search-lts.Need-row-at-requires (calls t) (search-at t) search′.Post
-search-row-at-requires t c κs = omega arith
-
-search-nothing-requires-2 : (t : ℕ) → search-lts.Need-nothing-requires-2 (calls t) (search-at t) search′.Post
-search-nothing-requires-2 t c κs = search needs
-
-search-nothing-requires-3 : (t : ℕ) → search-lts.Need-nothing-requires-3 (calls t) (search-at t) search′.Post
-search-nothing-requires-3 t c κs = search needs
-
-search-end-by-requires : (t : ℕ) → search-lts.Need-end-by-requires (calls t) (search-at t) search′.Post
-search-end-by-requires t c κs = search needs
-
 search-add-ends-after : (t : ℕ) → search-lts.Need-add-ends-after (calls t) (search-at t) search′.Post
 search-add-ends-after t c =
     let a = c .before .before .before .before .before .before .before .before .before .before .before .before .before .before .args in
     let e = c .before .before .before .before .before .before .row-at .ensures in
     omega (arith, c .before .before .before .before .before .before .before .before .before .before .before .before .before .before .good .0, c .before .before .before .before .before .before .before .before .before .before .before .before .before .before .pre .1 .0 .sound (a .n - a .left) (omega (arith, c .before .before .before .before .before .before .before .before .before .before .before .before .before .before .pre .1 .1)) .span, ap (λ (r : Row). r .start) e, ap (λ (r : Row). r .len) e)
 
-search-ends-after-requires : (t : ℕ) → search-lts.Need-ends-after-requires (calls t) (search-at t) search′.Post
-search-ends-after-requires t c κs = search needs
-
 search-array-write-next : (t : ℕ) → search-lts.Need-array-write-next (calls t) (search-at t) search′.Post
 search-array-write-next t c = omega (arith, c .before .before .before .before .before .before .before .before .before .before .before .before .before .before .before .pre .1 .0 .few)
 
-search-sub-search : (t : ℕ) → search-lts.Need-sub-search (calls t) (search-at t) search′.Post
-search-sub-search t c = omega arith
-
 search-add-search : (t : ℕ) → search-lts.Need-add-search (calls t) (search-at t) search′.Post
-search-add-search t c =
-    let a = c .before .before .before .before .before .before .before .before .before .before .before .before .before .before .before .args in
-    let p = c .before .before .before .before .before .before .before .before .before .before .before .before .before .before .before .pre .1 in
-    omega (arith, made-total (a .reference .now) (a .first .now) (a .second .now) (a .table .now) (a .choices) (a .ends) (a .score) (a .n) (a .left) (p .0 .few) (c .before .before .before .before .before .before .before .before .if1 .left) (p .1) (p .2), p .0 .few)
+search-add-search t c = omega (arith, total-below t (c .before .before .before .before .before .before .before .before .before .before .before .before .before .before .before) (c .before .before .before .before .before .before .before .before .if1 .left), c .before .before .before .before .before .before .before .before .before .before .before .before .before .before .before .pre .1 .0 .few)
 
 search-search-requires : (t : ℕ) → search-lts.Need-search-requires (calls t) (search-at t) search′.Post
 search-search-requires t c κs =
@@ -141,14 +113,8 @@ search-search-requires t c κs =
 search-array-write-next-2 : (t : ℕ) → search-lts.Need-array-write-next-2 (calls t) (search-at t) search′.Post
 search-array-write-next-2 t c = omega (arith, c .before .before .before .before .before .before .before .before .before .before .before .before .before .before .before .before .before .before .before .before .before .before .pre .1 .0 .few)
 
-search-sub-search-2 : (t : ℕ) → search-lts.Need-sub-search-2 (calls t) (search-at t) search′.Post
-search-sub-search-2 t c = omega arith
-
 search-add-search-2 : (t : ℕ) → search-lts.Need-add-search-2 (calls t) (search-at t) search′.Post
-search-add-search-2 t c =
-    let a = c .before .before .before .before .before .before .before .before .before .before .before .before .before .before .before .before .before .before .before .before .before .before .args in
-    let p = c .before .before .before .before .before .before .before .before .before .before .before .before .before .before .before .before .before .before .before .before .before .before .pre .1 in
-    omega (arith, made-total (a .reference .now) (a .first .now) (a .second .now) (a .table .now) (a .choices) (a .ends) (a .score) (a .n) (a .left) (p .0 .few) (c .before .before .before .before .before .before .before .before .before .before .before .before .before .before .before .if1 .left) (p .1) (p .2), p .0 .few)
+search-add-search-2 t c = omega (arith, total-below t (c .before .before .before .before .before .before .before .before .before .before .before .before .before .before .before .before .before .before .before .before .before .before) (c .before .before .before .before .before .before .before .before .before .before .before .before .before .before .before .if1 .left), c .before .before .before .before .before .before .before .before .before .before .before .before .before .before .before .before .before .before .before .before .before .before .pre .1 .0 .few)
 
 search-search-requires-2 : (t : ℕ) → search-lts.Need-search-requires-2 (calls t) (search-at t) search′.Post
 search-search-requires-2 t c κs =
@@ -158,9 +124,6 @@ search-search-requires-2 t c κs =
       omega (arith, c .before .before .before .before .before .before .before .before .before .before .before .before .before .before .before .before .before .before .before .before .before .before .before .before .pre .0, c .before .before .before .before .before .before .before .before .before .before .before .before .before .before .before .before .before .if1 .left),
       (ready-room (a .reference .now) (a .first .now) (a .second .now) (a .table .now) (a .n) (a .from) (a .to) _ _ _ _ (p .0) (omega (arith, c .before .before .before .before .before .before .search .kept .1 .1 .1 .1 .1 .1 .1 .1 .1 .1 .1 .0)) (omega (arith, c .before .before .before .before .before .before .search .kept .1 .1 .1 .1 .1 .1 .1 .1 .1 .1 .1 .1 .0)), omega (arith, p .1), taken),
     )
-
-search-sub-search-3 : (t : ℕ) → search-lts.Need-sub-search-3 (calls t) (search-at t) search′.Post
-search-sub-search-3 t c = omega arith
 
 search-search-requires-3 : (t : ℕ) → search-lts.Need-search-requires-3 (calls t) (search-at t) search′.Post
 search-search-requires-3 t c κs =
@@ -199,34 +162,11 @@ search-returns-3 t c =
 
 pub +search-spec : {M : Type 1} → statement M
 +search-spec =
+    -- what is arithmetic, or found by search, is answered in place
     close μ-search λ t. search-lts.spec (calls t) (search-at t) search′.Post
-    (search-is-legal-requires t)
-    (search-same-length t)
-    (search-same-length-2 t)
-    (search-returns t)
-    (search-nothing-requires t)
-    (search-same-length-3 t)
-    (search-same-length-4 t)
-    (search-returns-2 t)
-    (search-sub-at t)
-    (search-row-at-requires t)
-    (search-nothing-requires-2 t)
-    (search-nothing-requires-3 t)
-    (search-end-by-requires t)
-    (search-add-ends-after t)
-    (search-ends-after-requires t)
-    (search-array-write-next t)
-    (search-sub-search t)
-    (search-add-search t)
-    (search-search-requires t)
-    (search-array-write-next-2 t)
-    (search-sub-search-2 t)
-    (search-add-search-2 t)
-    (search-search-requires-2 t)
-    (search-sub-search-3 t)
-    (search-search-requires-3 t)
-    (search-better-requires t)
-    (search-better-requires-2 t)
-    (search-same-length-5 t)
-    (search-same-length-6 t)
+    (search-is-legal-requires t) (λ c. omega arith) (λ c. omega arith) (search-returns t) (λ c κs. search needs) (λ c. omega arith) (λ c. omega arith)
+    (search-returns-2 t) (λ c. omega arith) (λ c κs. omega arith) (λ c κs. search needs) (λ c κs. search needs) (λ c κs. search needs)
+    (search-add-ends-after t) (λ c κs. search needs) (search-array-write-next t) (λ c. omega arith) (search-add-search t) (search-search-requires t)
+    (search-array-write-next-2 t) (λ c. omega arith) (search-add-search-2 t) (search-search-requires-2 t) (λ c. omega arith)
+    (search-search-requires-3 t) (search-better-requires t) (search-better-requires-2 t) (search-same-length-5 t) (search-same-length-6 t)
     (search-returns-3 t)

@@ -1,6 +1,6 @@
--- `matching::search::ends_after` meets its contract. Assumes nothing.
-use Rattle.matching.proofs.search.ends_after.Statement.{statement}
-use Rattle.matching.proofs.search.ends_after.Tie as tie
+-- `matching::ends::ends_after` meets its contract. Assumes nothing.
+use Rattle.matching.proofs.ends.ends_after.Statement.{statement}
+use Rattle.matching.proofs.ends.ends_after.Tie as tie
 
 returns : tie.Need-returns
 returns c = rw (c .if1 .taken)
