@@ -42,6 +42,12 @@ OneResult n ps r post =
     (κs : Lfts n) (a : Dens κs ps) (z z′ : resT r κs .Denot) (e e′ : AtExit (endedOf n ps r) κs)
     → post κs a z e → post κs a z′ e′ → z ≡ z′
 
+-- What is seen of what is lent, at any two exits that the contract allows for the same arguments, is equal.
+abbrev pub OneLeft : (n : ℕ) (ps : List (PK n)) (r : RK n) → Out n ps r → (A : Type 0) → ((κs : Lfts n) → AtExit (endedOf n ps r) κs → A) → Type 0
+OneLeft n ps r post A see =
+    (κs : Lfts n) (a : Dens κs ps) (z z′ : resT r κs .Denot) (e e′ : AtExit (endedOf n ps r) κs)
+    → post κs a z e → post κs a z′ e′ → see κs e ≡ see κs e′
+
 pub letter-determines : OneResult 0 letter-kinds.ps letter-kinds.r letter.Post
 letter-determines κs a z z′ e e′ p q = p ∙ sym q
 

@@ -3,13 +3,10 @@
 -- The exception is what `donors_agree` leaves in its two buffers. They are room to build in and no part of its answer, so its contract does not speak of them.
 -- Assumes nothing.
 use mathlib.Core.List.{List}
-use mathlib.Core.Path.{_≡_, sym, _∙_}
+use mathlib.Core.Path.{sym, _∙_}
 use Prim.Native.Nat.{ℕ}
-use contract.Lifetimes.{Lfts}
 use denote.Ref.{now}
-use denote.Triple.Clauses.{AtExit}
-use borrow.Fn.Kinds.{PK, RK, Dens, resT, endedOf, Out}
-use Rattle.bases.proofs.Determines.{OneResult}
+use Rattle.bases.proofs.Determines.{OneResult, OneLeft}
 use Rattle.donors.proofs.table.row_at.Kinds as row-at-kinds
 use Rattle.donors.proofs.table.row_at.Reads as row-at
 use Rattle.donors.proofs.table.is_chosen.Kinds as is-chosen-kinds
@@ -24,12 +21,6 @@ use Rattle.donors.proofs.build.build.Kinds as build-kinds
 use Rattle.donors.proofs.build.build.Reads as build
 use Rattle.donors.proofs.agree.donors_agree.Kinds as donors-agree-kinds
 use Rattle.donors.proofs.agree.donors_agree.Reads as donors-agree
-
--- What is seen of the arguments at any two exits that the contract allows is equal.
-abbrev pub OneLeft : (n : ℕ) (ps : List (PK n)) (r : RK n) → Out n ps r → (A : Type 0) → ((κs : Lfts n) → AtExit (endedOf n ps r) κs → A) → Type 0
-OneLeft n ps r post A see =
-    (κs : Lfts n) (a : Dens κs ps) (z z′ : resT r κs .Denot) (e e′ : AtExit (endedOf n ps r) κs)
-    → post κs a z e → post κs a z′ e′ → see κs e ≡ see κs e′
 
 pub row-at-determines : OneResult 1 row-at-kinds.ps row-at-kinds.r row-at.Post
 row-at-determines κs a z z′ e e′ p q = p ∙ sym q

@@ -1,15 +1,55 @@
--- Each contract determines its result: any two results that it allows for the same arguments are equal.
--- `Post` is the contract as src/ states it. No function here is lent anything that it can write.
+-- Each contract determines its result, and what it leaves in the room that it is lent: any two that it allows for the same arguments are equal.
+-- `Post` is the contract as src/ states it.
 -- Assumes nothing.
+use mathlib.Core.List.{List}
 use mathlib.Core.Path.{sym, _∙_}
-use Rattle.bases.proofs.Determines.{OneResult}
+use Prim.Native.Nat.{ℕ}
+use denote.Ref.{now}
+use Rattle.bases.proofs.Determines.{OneResult, OneLeft}
 use Rattle.normal.proofs.cut.cuts_of.Kinds as cuts-of-kinds
 use Rattle.normal.proofs.cut.cuts_of.Reads as cuts-of
 use Rattle.normal.proofs.entry.normal_entry.Kinds as normal-entry-kinds
 use Rattle.normal.proofs.entry.normal_entry.Reads as normal-entry
+use Rattle.normal.proofs.put.put_bytes.Kinds as put-bytes-kinds
+use Rattle.normal.proofs.put.put_bytes.Reads as put-bytes
+use Rattle.normal.proofs.put.put_byte.Kinds as put-byte-kinds
+use Rattle.normal.proofs.put.put_byte.Reads as put-byte
+use Rattle.normal.proofs.put.put_decimal.Kinds as put-decimal-kinds
+use Rattle.normal.proofs.put.put_decimal.Reads as put-decimal
+use Rattle.normal.proofs.put.move_right.Kinds as move-right-kinds
+use Rattle.normal.proofs.put.move_right.Reads as move-right
+use Rattle.normal.proofs.write.put_alts.Kinds as put-alts-kinds
+use Rattle.normal.proofs.write.put_alts.Reads as put-alts
 
 pub cuts-of-determines : OneResult 4 cuts-of-kinds.ps cuts-of-kinds.r cuts-of.Post
 cuts-of-determines κs a z z′ e e′ p q = p ∙ sym q
 
 pub normal-entry-determines : OneResult 2 normal-entry-kinds.ps normal-entry-kinds.r normal-entry.Post
 normal-entry-determines κs a z z′ e e′ p q = p ∙ sym q
+
+pub put-bytes-determines : OneResult 2 put-bytes-kinds.ps put-bytes-kinds.r put-bytes.Post
+put-bytes-determines κs a z z′ e e′ p q = p .0 ∙ sym (q .0)
+
+pub put-bytes-leaves : OneLeft 2 put-bytes-kinds.ps put-bytes-kinds.r put-bytes.Post (List ℕ) (λ κs e. now (e .1 .0))
+put-bytes-leaves κs a z z′ e e′ p q = p .1 ∙ sym (q .1)
+
+pub put-byte-determines : OneResult 1 put-byte-kinds.ps put-byte-kinds.r put-byte.Post
+put-byte-determines κs a z z′ e e′ p q = p .0 ∙ sym (q .0)
+
+pub put-byte-leaves : OneLeft 1 put-byte-kinds.ps put-byte-kinds.r put-byte.Post (List ℕ) (λ κs e. now (e .1 .0))
+put-byte-leaves κs a z z′ e e′ p q = p .1 ∙ sym (q .1)
+
+pub put-decimal-determines : OneResult 1 put-decimal-kinds.ps put-decimal-kinds.r put-decimal.Post
+put-decimal-determines κs a z z′ e e′ p q = p .0 ∙ sym (q .0)
+
+pub put-decimal-leaves : OneLeft 1 put-decimal-kinds.ps put-decimal-kinds.r put-decimal.Post (List ℕ) (λ κs e. now (e .1 .0))
+put-decimal-leaves κs a z z′ e e′ p q = p .1 ∙ sym (q .1)
+
+pub move-right-leaves : OneLeft 1 move-right-kinds.ps move-right-kinds.r move-right.Post (List ℕ) (λ κs e. now (e .0))
+move-right-leaves κs a z z′ e e′ p q = p ∙ sym q
+
+pub put-alts-determines : OneResult 3 put-alts-kinds.ps put-alts-kinds.r put-alts.Post
+put-alts-determines κs a z z′ e e′ p q = p .0 ∙ sym (q .0)
+
+pub put-alts-leaves : OneLeft 3 put-alts-kinds.ps put-alts-kinds.r put-alts.Post (List ℕ) (λ κs e. now (e .1 .1 .1 .1 .0))
+put-alts-leaves κs a z z′ e e′ p q = p .1 ∙ sym (q .1)

@@ -3,6 +3,7 @@ pub mod AltLaws
 pub mod CutLaws
 pub mod DecimalLaws
 pub mod Determines
+pub mod DigitLaws
 pub mod DonorLaws
 pub mod EntryLaws
 pub mod Examples
@@ -16,6 +17,7 @@ pub mod NewAlleles
 pub mod NormalEntry
 pub mod NormalForm
 pub mod OrderLaws
+pub mod PutLaws
 pub mod RecordEntryLaws
 pub mod RunLaws
 pub mod ShrinkLaws

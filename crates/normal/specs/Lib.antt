@@ -1,4 +1,5 @@
 pub mod Cut
 pub mod Form
+pub mod Put
 pub mod Spelled
 pub mod Written

@@ -96,6 +96,10 @@ normalEntry reference text e =
 abbrev pub bytesSpelled : List ℕ → List ℕ → ℕ → Spelled → List ℕ
 bytesSpelled reference text p a = take (a .front) (drop p reference) ++ bytesOf text (a .own)
 
+-- Its bases of the reference stand on the reference, and its own in the text.
+abbrev pub OnBoth : List ℕ → List ℕ → ℕ → Spelled → Type 0
+OnBoth reference text p a = (p + a .front ≤ length reference) × (a .own .at + a .own .len ≤ length text)
+
 -- What it spells, of an entry with so many ALTs.
 abbrev pub formSpelled : List ℕ → List ℕ → ℕ → NormalEntry → Form
 formSpelled reference text alts n =
