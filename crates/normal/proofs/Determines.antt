@@ -18,6 +18,12 @@ use Rattle.normal.proofs.put.put_decimal.Kinds as put-decimal-kinds
 use Rattle.normal.proofs.put.put_decimal.Reads as put-decimal
 use Rattle.normal.proofs.put.move_right.Kinds as move-right-kinds
 use Rattle.normal.proofs.put.move_right.Reads as move-right
+use Rattle.normal.proofs.write.put_front.Kinds as put-front-kinds
+use Rattle.normal.proofs.write.put_front.Reads as put-front
+use Rattle.normal.proofs.write.put_back.Kinds as put-back-kinds
+use Rattle.normal.proofs.write.put_back.Reads as put-back
+use Rattle.normal.proofs.write.put_line.Kinds as put-line-kinds
+use Rattle.normal.proofs.write.put_line.Reads as put-line
 use Rattle.normal.proofs.write.put_alts.Kinds as put-alts-kinds
 use Rattle.normal.proofs.write.put_alts.Reads as put-alts
 
@@ -53,3 +59,21 @@ put-alts-determines κs a z z′ e e′ p q = p .0 ∙ sym (q .0)
 
 pub put-alts-leaves : OneLeft 3 put-alts-kinds.ps put-alts-kinds.r put-alts.Post (List ℕ) (λ κs e. now (e .1 .1 .1 .1 .0))
 put-alts-leaves κs a z z′ e e′ p q = p .1 ∙ sym (q .1)
+
+pub put-front-determines : OneResult 2 put-front-kinds.ps put-front-kinds.r put-front.Post
+put-front-determines κs a z z′ e e′ p q = p .0 ∙ sym (q .0)
+
+pub put-front-leaves : OneLeft 2 put-front-kinds.ps put-front-kinds.r put-front.Post (List ℕ) (λ κs e. now (e .1 .1 .0))
+put-front-leaves κs a z z′ e e′ p q = p .1 ∙ sym (q .1)
+
+pub put-back-determines : OneResult 3 put-back-kinds.ps put-back-kinds.r put-back.Post
+put-back-determines κs a z z′ e e′ p q = p .0 ∙ sym (q .0)
+
+pub put-back-leaves : OneLeft 3 put-back-kinds.ps put-back-kinds.r put-back.Post (List ℕ) (λ κs e. now (e .1 .1 .1 .1 .0))
+put-back-leaves κs a z z′ e e′ p q = p .1 ∙ sym (q .1)
+
+pub put-line-determines : OneResult 3 put-line-kinds.ps put-line-kinds.r put-line.Post
+put-line-determines κs a z z′ e e′ p q = p .0 ∙ sym (q .0)
+
+pub put-line-leaves : OneLeft 3 put-line-kinds.ps put-line-kinds.r put-line.Post (List ℕ) (λ κs e. now (e .1 .1 .1 .1 .0))
+put-line-leaves κs a z z′ e e′ p q = p .1 ∙ sym (q .1)

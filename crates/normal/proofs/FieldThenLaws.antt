@@ -2,6 +2,7 @@
 --     skip-behind, full-behind                 fields behind a front
 --     field-here, field-next, full-next, rest-next   the first field of a line and those behind it
 --     field-some, record-length                a field of a line with ten is not empty; how long a record's line is
+--     Front, front-bounds                      where the fields up to REF begin and end, and where ALT ends
 --     line-split, line-record                  a line, by its first field; by its first five
 --     field-0 .. field-4, field-more, rest-5, ten-fields   the fields of a record's line
 -- Assumes nothing.
@@ -124,6 +125,21 @@ record-length a b c d e r =
       length-append d (TAB ∷ fieldThen e r),
       length-append e (TAB ∷ r),
     )
+
+-- Where the fields up to REF begin and end, and where ALT ends.
+pub record Front (l : List ℕ) : Type 0 where
+  pub pos : fieldAt 1 l ≤ length l
+  pub end : fieldEnd l (fieldAt 1 l) ≤ fieldAt 3 l
+  pub ref : fieldAt 3 l ≤ length l
+  pub alt : fieldEnd l (fieldAt 4 l) ≤ length l
+
+pub front-bounds : (l : List ℕ) → T (tenFields? l) → Front l
+unfolding skip
+front-bounds l t =
+    let a = field-within l 1 t (lit< tt) in
+    let b = field-within l 3 t (lit< tt) in
+    let d = field-within l 5 t (lit< tt) in
+    record { pos = omega arith; end = omega arith; ref = omega arith; alt = omega arith }
 
 -- A record's line, by its fields.
 module _ (a b c d e r : List ℕ) (wa : Without TAB a) (wb : Without TAB b) (wc : Without TAB c) (wd : Without TAB d) (we : Without TAB e) where

@@ -12,6 +12,7 @@ pub mod ExtendedLaws
 pub mod FieldThenLaws
 pub mod FormLaws
 pub mod HeaderLaws
+pub mod LinePartLaws
 pub mod MemberLaws
 pub mod NewAlleles
 pub mod NormalEntry

@@ -1,10 +1,14 @@
 -- Bytes written into lent room.
 -- Assumes nothing: these are definitions.
 use mathlib.Core.List.{List, [], _∷_, _++_}
-use Prim.Native.Nat.{ℕ, _+_, _/_, _%_}
+use Prim.Native.Nat.{ℕ, _+_, _-_, _/_, _%_}
 use lib.Dec.{leb}
 use lib.ListN.{length, take, drop}
-use Rattle.normal.specs.Written.{pickBytes}
+use Rattle.vcf.specs.Bytes.{LF, TAB}
+use Rattle.vcf.specs.Entry.{part, bytesOf}
+use Rattle.vcf.specs.Field.{fieldEnd, fieldAt}
+use Rattle.normal.specs.declared.entry.NormalEntry.{NormalEntry}
+use Rattle.normal.specs.Written.{pickBytes, decimal, altsSpelled}
 
 -- Room with bytes written from a place on: nothing else of it changes.
 abbrev pub put : List ℕ → ℕ → List ℕ → List ℕ
@@ -13,3 +17,14 @@ put d at s = take at d ++ s ++ drop (at + length s) d
 -- The digit of a number that counts so many, where the number is not below that.
 abbrev pub digitAt : ℕ → ℕ → List ℕ
 digitAt n unit = pickBytes (leb unit n) ((48 + n / unit % 10) ∷ []) []
+
+-- A line up to its REF, with another POS.
+abbrev pub frontWith : List ℕ → ℕ → List ℕ
+frontWith l pos =
+    let end = fieldEnd l (fieldAt 1 l) in
+    take (fieldAt 1 l) l ++ decimal pos ++ take (fieldAt 3 l - end) (drop end l)
+
+-- A line from its REF on, with the REF and so many ALTs of a normal form, and its LF.
+abbrev pub backWith : List ℕ → List ℕ → ℕ → NormalEntry → List ℕ
+backWith reference l alts n =
+    bytesOf reference (part (n .start .0) (n .span)) ++ (TAB ∷ []) ++ altsSpelled reference l alts n ++ drop (fieldEnd l (fieldAt 4 l)) l ++ (LF ∷ [])

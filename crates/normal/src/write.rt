@@ -1,15 +1,24 @@
 // A record's line, written in normal form. Only POS, REF and ALT are replaced; the other bytes of the line stay.
+ghost use mathlib.Core.List.{_++_};
 ghost use mathlib.Core.Path.{_≡_};
 ghost use Prim.Native.Nat.{_+_, _≤_};
 ghost use lib.ListN.{length};
-ghost use Rattle.normal.specs.Put.{put};
+ghost use lib.Dec.{T};
+ghost use Rattle.vcf.specs.Field.{tenFields?};
+ghost use Rattle.vcf.specs.Pos.{largestPos};
+ghost use Rattle.normal.specs.Put.{put, frontWith, backWith};
 ghost use Rattle.normal.specs.Spelled.{bytesSpelled, OnBoth};
 ghost use Rattle.normal.specs.Written.{altsSpelled};
 use crate::entry::NormalEntry;
 use crate::entry::Spelled;
 use crate::put::put_byte;
 use crate::put::put_bytes;
+use crate::put::put_decimal;
 use vcf::bytes::COMMA;
+use vcf::bytes::LF;
+use vcf::bytes::TAB;
+use vcf::bytes::find;
+use vcf::field::fields_of;
 
 // Writes an allele that starts at `start` on the reference.
 fn put_spelled(
@@ -51,4 +60,60 @@ pub fn put_alts(
     let end = put_spelled(reference, line, start, normal.first, out, at);
     let next = put_byte(COMMA, out, end);
     put_spelled(reference, line, start, normal.second, out, next)
+}
+
+// Writes a line of ten fields up to its REF, with another POS.
+pub fn put_front(line: &[u8], pos: usize, out: &mut [u8], at: usize) -> usize
+    requires { ⌜ T (tenFields? (now line)) × (pos ≤ largestPos) × (at + length (frontWith (now line) pos) + 5 ≤ length (now out)) ⌝ }
+    ensures { λ r. ⌜ (r ≡ at + length (frontWith (now (line .entry)) pos)) × (now (out .exit) ≡ put (now (out .entry)) at (frontWith (now (line .entry)) pos)) ⌝ }
+{
+    let fields = fields_of(line);
+    let pos_at = fields.pos;
+    let ref_at = fields.reference;
+    let end = find(line, pos_at, TAB);
+    let a = put_bytes(&line[..pos_at], out, at);
+    let b = put_decimal(pos, out, a);
+    put_bytes(&line[end..ref_at], out, b)
+}
+
+// Writes a line of ten fields from its REF on, with the REF and so many ALTs of a normal form, and its LF.
+pub fn put_back(
+    reference: &[u8],
+    line: &[u8],
+    alts: usize,
+    normal: NormalEntry,
+    out: &mut [u8],
+    at: usize,
+) -> usize
+    requires { ⌜ T (tenFields? (now line)) × (normal .start .0 + normal .span ≤ length (now reference)) × OnBoth (now reference) (now line) (normal .start .0) (normal .first) × OnBoth (now reference) (now line) (normal .start .0) (normal .second) × (at + length (backWith (now reference) (now line) alts normal) ≤ length (now out)) ⌝ }
+    ensures { λ r. ⌜ (r ≡ at + length (backWith (now (reference .entry)) (now (line .entry)) alts normal)) × (now (out .exit) ≡ put (now (out .entry)) at (backWith (now (reference .entry)) (now (line .entry)) alts normal)) ⌝ }
+{
+    let fields = fields_of(line);
+    let alt_at = fields.alt;
+    let rest = find(line, alt_at, TAB);
+    let place = normal.start;
+    let start = place.0;
+    let end = start + normal.span;
+    let a = put_bytes(&reference[start..end], out, at);
+    let b = put_byte(TAB, out, a);
+    let c = put_alts(reference, line, alts, normal, out, b);
+    let d = put_bytes(&line[rest..], out, c);
+    put_byte(LF, out, d)
+}
+
+// Writes a line of ten fields with the POS, the REF and so many ALTs of a normal form, and its LF.
+pub fn put_line(
+    reference: &[u8],
+    line: &[u8],
+    alts: usize,
+    normal: NormalEntry,
+    out: &mut [u8],
+    at: usize,
+) -> usize
+    requires { ⌜ T (tenFields? (now line)) × (normal .start .0 + 1 ≤ largestPos) × (normal .start .0 + normal .span ≤ length (now reference)) × OnBoth (now reference) (now line) (normal .start .0) (normal .first) × OnBoth (now reference) (now line) (normal .start .0) (normal .second) × (at + length (frontWith (now line) (normal .start .0 + 1) ++ backWith (now reference) (now line) alts normal) ≤ length (now out)) ⌝ }
+    ensures { λ r. ⌜ (r ≡ at + length (frontWith (now (line .entry)) (normal .start .0 + 1) ++ backWith (now (reference .entry)) (now (line .entry)) alts normal)) × (now (out .exit) ≡ put (now (out .entry)) at (frontWith (now (line .entry)) (normal .start .0 + 1) ++ backWith (now (reference .entry)) (now (line .entry)) alts normal)) ⌝ }
+{
+    let place = normal.start;
+    let next = put_front(line, place.0 + 1, out, at);
+    put_back(reference, line, alts, normal, out, next)
 }
