@@ -3,6 +3,7 @@ pub mod LetterLaws
 pub mod PartLaws
 pub mod PeriodLaws
 pub mod PlaceLaws
+pub mod PutLaws
 pub mod ReferenceLaws
 pub mod SameLaws
 pub mod TestLaws

@@ -11,7 +11,8 @@ use Rattle.bases.specs.Same.{agree?}
 use Rattle.donors.specs.Apart.{All}
 use Rattle.donors.specs.Choice.{Variant}
 use Rattle.donors.specs.Rules.{list1, list2}
-use Rattle.clusters.specs.Plan.{Cluster, rest, plan, recordsFrom, cardPlan}
+use Rattle.clusters.specs.declared.plan.Cluster.{Cluster}
+use Rattle.clusters.specs.Plan.{rest, plan, recordsFrom, cardPlan}
 use Rattle.clusters.specs.Merged.{weave, merged}
 
 -- The letters.

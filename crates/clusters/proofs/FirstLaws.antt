@@ -19,7 +19,8 @@ use Rattle.donors.specs.Rules.{Rules}
 use Rattle.matching.specs.Cut.{join}
 use Rattle.clusters.specs.declared.gap.Current.{Current}
 use Rattle.clusters.specs.Gap.{sizeOf, more, begin, cut?}
-use Rattle.clusters.specs.Plan.{onto, firstOf, rest, plan, Cluster, recordsFrom}
+use Rattle.clusters.specs.declared.plan.Cluster.{Cluster}
+use Rattle.clusters.specs.Plan.{onto, firstOf, rest, plan, recordsFrom}
 use Rattle.clusters.proofs.PlanLaws.{onto-onto, rest-none, rest-cut, rest-more}
 
 first-onto : {X : Type 0} (x : X) (cs : List (List X)) → firstOf (onto (x ∷ []) cs) ≡ x ∷ firstOf cs

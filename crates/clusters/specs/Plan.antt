@@ -8,6 +8,7 @@ use Rattle.bases.specs.Letter.{basesOf}
 use Rattle.donors.specs.Choice.{Variant, cardRules}
 use Rattle.donors.specs.Rules.{Rules}
 use Rattle.clusters.specs.declared.gap.Current.{Current}
+use Rattle.clusters.specs.declared.plan.Cluster.{Cluster}
 use Rattle.clusters.specs.Gap.{sizeOf, more, begin, cut?}
 use Rattle.clusters.specs.Merged.{mergedVariants}
 
@@ -35,11 +36,6 @@ module _ {X C H : Type 0} (𝓡 : Rules X C H) (R : List ℕ) where
   unfoldable pub plan : List X → List (List X)
   plan [] = []
   plan (x ∷ xs) = onto (x ∷ []) (rest (begin (sizeOf 𝓡 x)) xs)
-
--- A cluster by its first entry and its number of entries.
-pub record Cluster : Type 0 where
-  pub first : ℕ
-  pub count : ℕ
 
 -- The records of clusters, the first of which begins with entry i.
 unfoldable pub recordsFrom {ℓ} : {A : Type ℓ} → ℕ → List (List A) → List Cluster

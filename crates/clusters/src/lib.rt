@@ -4,3 +4,5 @@ pub mod cluster;
 pub mod gap;
 pub mod heads;
 pub mod item;
+pub mod mark;
+pub mod plan;
