@@ -1,10 +1,11 @@
--- Each contract determines its result: any two results that it allows for the same arguments are equal.
--- `Post` is the contract as src/ states it. No function here is lent anything that it can write.
+-- Each contract determines its result, and what it leaves in room that it is lent: any two that it allows for the same arguments are equal.
+-- `Post` is the contract as src/ states it.
 -- Assumes nothing.
 use mathlib.Core.List.{List}
 use mathlib.Core.Path.{_≡_, sym, _∙_}
 use Prim.Native.Nat.{ℕ}
 use contract.Lifetimes.{Lfts}
+use denote.Ref.{now}
 use denote.Triple.Clauses.{AtExit}
 use borrow.Fn.Kinds.{PK, RK, Dens, resT, endedOf, Out}
 use Rattle.bases.proofs.bytes.agree.Kinds as bytes-agree-kinds
@@ -25,6 +26,10 @@ use Rattle.bases.proofs.place.pos_of.Kinds as pos-of-kinds
 use Rattle.bases.proofs.place.pos_of.Reads as pos-of
 use Rattle.bases.proofs.place.place_of.Kinds as place-of-kinds
 use Rattle.bases.proofs.place.place_of.Reads as place-of
+use Rattle.bases.proofs.put.put_bytes.Kinds as put-bytes-kinds
+use Rattle.bases.proofs.put.put_bytes.Reads as put-bytes
+use Rattle.bases.proofs.put.put_byte.Kinds as put-byte-kinds
+use Rattle.bases.proofs.put.put_byte.Reads as put-byte
 use Rattle.bases.proofs.period.has_period.Kinds as has-period-kinds
 use Rattle.bases.proofs.period.has_period.Reads as has-period
 use Rattle.bases.proofs.period.has_any_period.Kinds as has-any-period-kinds
@@ -80,3 +85,15 @@ bytes-agree-determines κs a z z′ e e′ p q = p ∙ sym q
 
 pub same-bytes-determines : OneResult 2 same-bytes-kinds.ps same-bytes-kinds.r same-bytes.Post
 same-bytes-determines κs a z z′ e e′ p q = p ∙ sym q
+
+pub put-bytes-determines : OneResult 2 put-bytes-kinds.ps put-bytes-kinds.r put-bytes.Post
+put-bytes-determines κs a z z′ e e′ p q = p .0 ∙ sym (q .0)
+
+pub put-bytes-leaves : OneLeft 2 put-bytes-kinds.ps put-bytes-kinds.r put-bytes.Post (List ℕ) (λ κs e. now (e .1 .0))
+put-bytes-leaves κs a z z′ e e′ p q = p .1 ∙ sym (q .1)
+
+pub put-byte-determines : OneResult 1 put-byte-kinds.ps put-byte-kinds.r put-byte.Post
+put-byte-determines κs a z z′ e e′ p q = p .0 ∙ sym (q .0)
+
+pub put-byte-leaves : OneLeft 1 put-byte-kinds.ps put-byte-kinds.r put-byte.Post (List ℕ) (λ κs e. now (e .1 .0))
+put-byte-leaves κs a z z′ e e′ p q = p .1 ∙ sym (q .1)

@@ -3,8 +3,8 @@
 --     letters-at, letters-stop, letters-more, letters-past
 --                                  all are letters from i on: by the byte at i, and at the end
 --     letters-iff                  all are letters exactly if each is
---     bases-length, bases-at, bases-drop
---                                  the bases of bytes: as many, place by place, and of what is left
+--     bases-length, bases-at, bases-drop, bases-take, bases-part
+--                                  the bases of bytes: as many, place by place, of what is left, of the first n, and of a part
 -- Assumes nothing.
 use mathlib.Core.Bool.{Bool, true, false, not, _&&_, _||_}
 use mathlib.Core.List.{List, [], _∷_}
@@ -15,7 +15,7 @@ use native.Mathlib.Nat.{not-suc-le-zero, le-of-suc-le-suc}
 use native.Mathlib.Numerals.{add-one}
 use native.Mathlib.Omega.{arith}
 use lib.Dec.{T, eqb, eqb→eq}
-use lib.ListN.{length, getD, drop, drop-of-length-le}
+use lib.ListN.{length, getD, take, drop, drop-of-length-le}
 use lib.Seq.{drop-cons}
 use borrow.Author.Tests.{ne-eqb}
 use Rattle.bases.specs.Letter.{letters, among?, pick, letterOf, isLetter?, allLetters?, basesOf}
@@ -94,6 +94,14 @@ pub bases-drop : (n : ℕ) (bs : List ℕ) → basesOf (drop n bs) ≡ drop n (b
 bases-drop zero bs = refl
 bases-drop (suc n) [] = refl
 bases-drop (suc n) (b ∷ bs) = bases-drop n bs
+
+pub bases-take : (n : ℕ) (bs : List ℕ) → basesOf (take n bs) ≡ take n (basesOf bs)
+bases-take zero bs = refl
+bases-take (suc n) [] = refl
+bases-take (suc n) (b ∷ bs) = ap (λ (l : List ℕ). letterOf b ∷ l) (bases-take n bs)
+
+pub bases-part : (bs : List ℕ) (a n : ℕ) → basesOf (take n (drop a bs)) ≡ take n (drop a (basesOf bs))
+bases-part bs a n = bases-take n (drop a bs) ∙ ap (take n) (bases-drop a bs)
 
 pub letters-iff : (bs : List ℕ) → T (allLetters? bs) ↔ ((i : ℕ) → i < length bs → Letter (getD bs i 0))
 unfolding allLetters?

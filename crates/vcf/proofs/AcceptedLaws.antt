@@ -1,6 +1,7 @@
 -- The records of an accepted text: no row holds on any of them.
 --     Records, RecordsFrom                       no row holds on records; on those from a place on
 --     accepted-records                           so it is from where the records of an accepted text begin
+--     accepted-few-lines, accepted-few           it has at most 512, by their lines and by their entries
 --     records-here, records-next, records-skip   of the line there; of the lines behind it; of those some lines on
 --     records-order                              POS is not below that of the record before
 --     readable-records                                 an entry can be read off the lines from a place on
@@ -8,25 +9,30 @@
 -- Assumes nothing.
 use mathlib.Core.Bool.{Bool, true, false, not}
 use mathlib.Core.List.{List, [], _∷_}
-use mathlib.Core.Path.{_≡_, refl}
+use mathlib.Core.Path.{_≡_, refl, ap}
 use Prim.Native.Nat.{ℕ, zero, suc, _+_, _-_, _≤_, _<_}
 use native.Mathlib.Decide.{decLt, ℕ-discrete}
 use native.Mathlib.Nat.{zero-add}
 use native.Mathlib.Omega.{arith}
-use borrow.Author.Tests.{ltb-false}
+use borrow.Author.Tests.{leb-false, ltb-false}
 use lib.Dec.{T, not-T}
 use lib.ListN.{length, drop}
 use Rattle.bases.proofs.TestLaws.{of-false, both}
-use Rattle.vcf.specs.Entry.{lineAt, nextLine, headerBytes, recordsAt, readable?, allReadable?, readableFrom?, skipLines, recordAt}
+use Rattle.vcf.specs.Entry.{lineAt, nextLine, headerBytes, recordsAt, entriesFrom, entriesOf, readable?, allReadable?, readableFrom?, skipLines, recordAt}
 use Rattle.vcf.specs.Field.{tenFields?}
 use Rattle.vcf.specs.Header.{headerLine?}
 use Rattle.vcf.specs.List.{linesOf, textWrong?, above, belowAt, nextStage, lineRows, fault, pickFault, judgeLines, judgeText}
-use Rattle.vcf.specs.Record.{posOn, genotypeWrong?, recordRows}
+use Rattle.vcf.specs.Record.{mostRecords, posOn, genotypeWrong?, recordRows}
 use Rattle.vcf.specs.Row.{Row, firstRow}
 use Rattle.vcf.proofs.EntryLaws.{header-stop, header-more, skip-lines-zero, skip-lines-past, skip-lines-more, skip-lines-next}
 use Rattle.vcf.proofs.ListLaws.{lines-at, lines-past, next-header, next-column, judge-stop, judge-more, judge-end-above}
 use Rattle.vcf.proofs.RecordLineLaws.{RecordLine, record-line}
 use Rattle.vcf.proofs.RowLaws.{NoneHolds, none-holds, line-rows-numbered}
+
+entries-length : (a : ℕ) (ls : List (List ℕ)) → length (entriesFrom a ls) ≡ length ls
+unfolding entriesFrom
+entries-length a [] = refl
+entries-length a (l ∷ ls) = ap suc (entries-length (a + length l + 1) ls)
 
 module _ (reference name : List ℕ) where
   -- No row holds on these records, of which the first stands behind so many, the last of those at POS `last`.
@@ -85,13 +91,30 @@ module _ (reference name : List ℕ) where
       go (yes k) r = by-line k (headerLine? l) refl (by-row k (ℕ-discrete (firstRow (lineRows reference name above n l)) 0)) r
       go (no k) r = absurd (above-end t a n (omega arith) e)
 
-  pub accepted-records : (t : List ℕ) → judgeText reference name t .number ≡ 0 → RecordsFrom t (recordsAt t)
+  accepted-clear : (t : List ℕ) → judgeText reference name t .number ≡ 0 → Records 0 0 (linesOf (drop (recordsAt t) t))
   unfolding judgeText
-  accepted-records t e = go (textWrong? t) e
+  accepted-clear t e = go (textWrong? t) e
     where
-      go : (b : Bool) → pickFault b (fault 3 0) (judgeLines reference name above 1 (linesOf t)) .number ≡ 0 → RecordsFrom t (recordsAt t)
+      go : (b : Bool) → pickFault b (fault 3 0) (judgeLines reference name above 1 (linesOf t)) .number ≡ 0 → Records 0 0 (linesOf (drop (recordsAt t) t))
       go true e = absurd (omega arith)
-      go false e = record { records = 0; last = 0; clear = rw zero-add at (above-records t (length t) 0 1 (omega arith) e) }
+      go false e = rw zero-add at (above-records t (length t) 0 1 (omega arith) e)
+
+  pub accepted-records : (t : List ℕ) → judgeText reference name t .number ≡ 0 → RecordsFrom t (recordsAt t)
+  accepted-records t e = record { records = 0; last = 0; clear = accepted-clear t e }
+
+  records-few : (records last : ℕ) (ls : List (List ℕ)) → Records records last ls → records ≤ mostRecords → records + length ls ≤ mostRecords
+  records-few records last [] r h = omega arith
+  records-few records last (l ∷ ls) r h =
+      let few = leb-false mostRecords records (r .0 .1 .1 .0) in
+      let rest = records-few (records + 1) (posOn l) ls (r .1) (omega arith) in
+      omega arith
+
+  -- There are at most 512 records, by their lines and by their entries.
+  pub accepted-few-lines : (t : List ℕ) → judgeText reference name t .number ≡ 0 → length (linesOf (drop (recordsAt t) t)) ≤ mostRecords
+  accepted-few-lines t e = omega (arith, records-few 0 0 (linesOf (drop (recordsAt t) t)) (accepted-clear t e) (omega arith))
+
+  pub accepted-few : (t : List ℕ) → judgeText reference name t .number ≡ 0 → length (entriesOf t) ≤ mostRecords
+  accepted-few t e = omega (arith, entries-length (recordsAt t) (linesOf (drop (recordsAt t) t)), accepted-few-lines t e)
 
   module _ (t : List ℕ) where
     pub records-here : (a : ℕ) (r : RecordsFrom t a) → a < length t → NoneHolds (recordRows reference name (r .records) (r .last) (lineAt t a))

@@ -1,9 +1,10 @@
 -- Laws of finding a byte.
 --     until-stop, until-more, until-past    from i on: by the byte there, and at the end
 --     until-le                              it is found within the list, or is its length
+--     until-front                           where it is found, what stands behind does not matter
 -- Assumes nothing.
 use mathlib.Core.Bool.{Bool, true, false}
-use mathlib.Core.List.{List, [], _∷_}
+use mathlib.Core.List.{List, [], _∷_, _++_}
 use mathlib.Core.Path.{_≡_, refl, ap, _∙_}
 use Prim.Native.Nat.{ℕ, suc, _+_, _≤_, _<_}
 use native.Mathlib.Numerals.{add-one}
@@ -37,3 +38,13 @@ until-le x (b ∷ bs) = go (eqb b x) (until-le x bs)
     go : (t : Bool) → until x bs ≤ length bs → pick t 0 (suc (until x bs)) ≤ suc (length bs)
     go true h = omega arith
     go false h = omega arith
+
+pub until-front : (x : ℕ) (l r : List ℕ) → until x l < length l → until x (l ++ r) ≡ until x l
+unfolding until
+until-front x [] r h = absurd (omega arith)
+until-front x (b ∷ bs) r h = go (eqb b x) (until-front x bs r) h
+  where
+    go : (t : Bool) → (until x bs < length bs → until x (bs ++ r) ≡ until x bs) → pick t 0 (suc (until x bs)) < suc (length bs)
+        → pick t 0 (suc (until x (bs ++ r))) ≡ pick t 0 (suc (until x bs))
+    go true f h = refl
+    go false f h = ap suc (f (omega arith))

@@ -18,6 +18,8 @@ use Rattle.vcf.proofs.bytes.find.Kinds as find-kinds
 use Rattle.vcf.proofs.bytes.find.Reads as find
 use Rattle.vcf.proofs.entry.entry_at.Kinds as entry-at-kinds
 use Rattle.vcf.proofs.entry.entry_at.Reads as entry-at
+use Rattle.vcf.proofs.entry.pos_at.Kinds as pos-at-kinds
+use Rattle.vcf.proofs.entry.pos_at.Reads as pos-at
 use Rattle.vcf.proofs.entry.next_line.Kinds as next-line-kinds
 use Rattle.vcf.proofs.entry.next_line.Reads as next-line
 use Rattle.vcf.proofs.entry.record_at.Kinds as record-at-kinds
@@ -126,3 +128,6 @@ field-from-determines κs a z z′ e e′ p q = p ∙ sym q
 
 pub genotype-of-determines : OneSeen 1 genotype-of-kinds.ps genotype-of-kinds.r genotype-of.Post (List ℕ) (λ κs z. now z)
 genotype-of-determines κs a z z′ e e′ p q = p ∙ sym q
+
+pub pos-at-determines : OneResult 1 pos-at-kinds.ps pos-at-kinds.r pos-at.Post
+pos-at-determines κs a z z′ e e′ p q = p ∙ sym q

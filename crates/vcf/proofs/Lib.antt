@@ -8,6 +8,7 @@ pub mod GenotypeLaws
 pub mod JudgeLaws
 pub mod ListLaws
 pub mod PartLaws
+pub mod PosAtLaws
 pub mod PosLaws
 pub mod RecordLaws
 pub mod RecordLineLaws

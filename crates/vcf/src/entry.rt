@@ -3,15 +3,18 @@ ghost use mathlib.Core.Path.{_≡_};
 ghost use Prim.Native.Nat.{_+_, _-_, _≤_, _<_, _^_};
 ghost use lib.Dec.{T};
 ghost use lib.ListN.{length};
+ghost use Rattle.vcf.specs.Record.{posOn};
 ghost use Rattle.vcf.specs.Entry.{lineAt, nextLine, entryOf, recordsAt, part, readable?, readableFrom?, recordAt};
 use crate::allele::alt_count;
 use crate::bytes::COMMA;
 use crate::bytes::LF;
+use crate::bytes::TAB;
 use crate::bytes::find;
 use crate::field::field_from;
 use crate::field::fields_of;
 use crate::genotype::genotype_of;
 use crate::header::is_header_line;
+use crate::pos::read_pos;
 use crate::record::pos_on;
 use bases::place::Pos;
 
@@ -130,4 +133,13 @@ pub fn entry_at(text: &[u8], at: usize) -> Entry
 {
     let end = find(text, at, LF);
     entry_on(&text[at..end], at)
+}
+
+// POS of the record whose line begins at `at`. No more of the line is looked at.
+pub fn pos_at(text: &[u8], at: usize) -> usize
+    requires { ⌜ (at < length (now text)) × T (readableFrom? (now text) at) ⌝ }
+    ensures { λ r. ⌜ r ≡ posOn (lineAt (now (text .entry)) at) ⌝ }
+{
+    let from = find(text, at, TAB) + 1;
+    read_pos(field_from(text, from))
 }
