@@ -10,10 +10,10 @@ use Rattle.normal.proofs.cut.cuts_of.Kinds as cuts-of-kinds
 use Rattle.normal.proofs.cut.cuts_of.Reads as cuts-of
 use Rattle.normal.proofs.entry.normal_entry.Kinds as normal-entry-kinds
 use Rattle.normal.proofs.entry.normal_entry.Reads as normal-entry
-use Rattle.normal.proofs.put.put_bytes.Kinds as put-bytes-kinds
-use Rattle.normal.proofs.put.put_bytes.Reads as put-bytes
-use Rattle.normal.proofs.put.put_byte.Kinds as put-byte-kinds
-use Rattle.normal.proofs.put.put_byte.Reads as put-byte
+use Rattle.normal.proofs.list.write_list.Kinds as write-list-kinds
+use Rattle.normal.proofs.list.write_list.Reads as write-list
+use Rattle.normal.proofs.place.line_place.Kinds as line-place-kinds
+use Rattle.normal.proofs.place.line_place.Reads as line-place
 use Rattle.normal.proofs.put.put_decimal.Kinds as put-decimal-kinds
 use Rattle.normal.proofs.put.put_decimal.Reads as put-decimal
 use Rattle.normal.proofs.put.move_right.Kinds as move-right-kinds
@@ -32,18 +32,6 @@ cuts-of-determines κs a z z′ e e′ p q = p ∙ sym q
 
 pub normal-entry-determines : OneResult 2 normal-entry-kinds.ps normal-entry-kinds.r normal-entry.Post
 normal-entry-determines κs a z z′ e e′ p q = p ∙ sym q
-
-pub put-bytes-determines : OneResult 2 put-bytes-kinds.ps put-bytes-kinds.r put-bytes.Post
-put-bytes-determines κs a z z′ e e′ p q = p .0 ∙ sym (q .0)
-
-pub put-bytes-leaves : OneLeft 2 put-bytes-kinds.ps put-bytes-kinds.r put-bytes.Post (List ℕ) (λ κs e. now (e .1 .0))
-put-bytes-leaves κs a z z′ e e′ p q = p .1 ∙ sym (q .1)
-
-pub put-byte-determines : OneResult 1 put-byte-kinds.ps put-byte-kinds.r put-byte.Post
-put-byte-determines κs a z z′ e e′ p q = p .0 ∙ sym (q .0)
-
-pub put-byte-leaves : OneLeft 1 put-byte-kinds.ps put-byte-kinds.r put-byte.Post (List ℕ) (λ κs e. now (e .1 .0))
-put-byte-leaves κs a z z′ e e′ p q = p .1 ∙ sym (q .1)
 
 pub put-decimal-determines : OneResult 1 put-decimal-kinds.ps put-decimal-kinds.r put-decimal.Post
 put-decimal-determines κs a z z′ e e′ p q = p .0 ∙ sym (q .0)
@@ -77,3 +65,12 @@ put-line-determines κs a z z′ e e′ p q = p .0 ∙ sym (q .0)
 
 pub put-line-leaves : OneLeft 3 put-line-kinds.ps put-line-kinds.r put-line.Post (List ℕ) (λ κs e. now (e .1 .1 .1 .1 .0))
 put-line-leaves κs a z z′ e e′ p q = p .1 ∙ sym (q .1)
+
+pub line-place-determines : OneResult 1 line-place-kinds.ps line-place-kinds.r line-place.Post
+line-place-determines κs a z z′ e e′ p q = p ∙ sym q
+
+pub write-list-determines : OneResult 3 write-list-kinds.ps write-list-kinds.r write-list.Post
+write-list-determines κs a z z′ e e′ p q = p .0 ∙ sym (q .0)
+
+pub write-list-leaves : OneLeft 3 write-list-kinds.ps write-list-kinds.r write-list.Post (List ℕ) (λ κs e. now (e .1 .1 .0))
+write-list-leaves κs a z z′ e e′ p q = p .1 ∙ sym (q .1)

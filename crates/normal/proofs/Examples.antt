@@ -1,13 +1,23 @@
 -- Examples 2 to 5 of document 01, and the N that a shift brings into ALT: the closed form computes each, so each is the normal form in document 01's words.
+-- A list of three records, written: two come before the first, at one POS, in the order read.
 -- Assumes nothing.
-use mathlib.Core.List.{List, [], _∷_, List·Memᴰ·not-nil, List·Memᴰ·cases-cons}
+use mathlib.Core.List.{List, [], _∷_, _++_, List·Memᴰ·not-nil, List·Memᴰ·cases-cons}
 use mathlib.Core.Logic.{⊎-elim}
 use mathlib.Core.Path.{_≡_, refl, subst}
 use Prim.Native.Nat.{ℕ, _-_, _≤_}
 use lib.Dec.{lit≤}
 use lib.ListN.{length}
+use Rattle.bases.specs.Letter.{letterOf, among?}
+use Rattle.bases.specs.Same.{agree?}
+use Rattle.vcf.specs.Bytes.{TAB, COMMA, versionLine, columnNames, until}
+use Rattle.vcf.specs.Entry.{headerBytes}
+use Rattle.vcf.specs.Field.{skip}
+use Rattle.vcf.specs.List.{linesOf}
+use Rattle.vcf.specs.Pos.{isPos?, allDigits?, valueFrom}
 use Rattle.normal.specs.Form.{Form, OnReference, NoneEmpty, NormalForm}
 use Rattle.normal.specs.Cut.{run, all?, shortest, normalOf}
+use Rattle.normal.specs.Spelled.{normalEntry}
+use Rattle.normal.specs.Written.{recordOf, digitsOf, writtenLine, putLine, writtenLines, textOf, writtenText}
 use Rattle.normal.proofs.NormalForm.{normal-exists}
 
 abbrev pub A : ℕ
@@ -61,3 +71,35 @@ example-5 = computed _ 1 _ _ _ (lit≤ tt, refl) (lit≤ tt) (lit≤ tt) refl
 pub example-N : NormalForm (C ∷ N ∷ A ∷ A ∷ G ∷ []) (entry 3 (A ∷ A ∷ []) (A ∷ [])) (entry 2 (N ∷ A ∷ []) (N ∷ []))
 unfolding normalOf run all? shortest
 example-N = computed _ 3 _ _ _ (lit≤ tt, refl) (lit≤ tt) (lit≤ tt) refl
+
+-- The lines of a list on GGGGGGGGGCATATG: the header, and records at a POS with an ID, REF and ALT.
+abbrev column : List ℕ
+column = columnNames ++ (83 ∷ [])
+
+abbrev bases : List ℕ
+bases = G ∷ G ∷ G ∷ G ∷ G ∷ G ∷ G ∷ G ∷ G ∷ C ∷ A ∷ T ∷ A ∷ T ∷ G ∷ []
+
+-- `.` for QUAL, FILTER and INFO, `GT`, and the genotype 1/1
+abbrev rest : List ℕ
+rest = 46 ∷ TAB ∷ 46 ∷ TAB ∷ 46 ∷ TAB ∷ 71 ∷ 84 ∷ TAB ∷ 49 ∷ 47 ∷ 49 ∷ []
+
+abbrev line : List ℕ → ℕ → List ℕ → List ℕ → List ℕ
+line pos id ref alt = recordOf (49 ∷ []) pos (id ∷ []) ref alt rest
+
+-- POS 11 A to G (ID a), POS 12 TAT to T (b), POS 12 TAT to T and TATAT (c): b and c come to POS 10, before a.
+pub example-written :
+    writtenText bases
+    (textOf (versionLine
+    ∷ column
+    ∷ line (49 ∷ 49 ∷ []) 97 (A ∷ []) (G ∷ [])
+    ∷ line (49 ∷ 50 ∷ []) 98 (T ∷ A ∷ T ∷ []) (T ∷ [])
+    ∷ line (49 ∷ 50 ∷ []) 99 (T ∷ A ∷ T ∷ []) (T ∷ COMMA ∷ T ∷ A ∷ T ∷ A ∷ T ∷ [])
+    ∷ []))
+    ≡ textOf (versionLine
+    ∷ column
+    ∷ line (49 ∷ 48 ∷ []) 98 (C ∷ A ∷ T ∷ []) (C ∷ [])
+    ∷ line (49 ∷ 48 ∷ []) 99 (C ∷ A ∷ T ∷ []) (C ∷ COMMA ∷ C ∷ A ∷ T ∷ A ∷ T ∷ [])
+    ∷ line (49 ∷ 49 ∷ []) 97 (A ∷ []) (G ∷ [])
+    ∷ [])
+unfolding writtenText textOf writtenLines putLine writtenLine digitsOf normalEntry run all? shortest headerBytes linesOf skip until isPos? allDigits? valueFrom agree? letterOf among?
+example-written = refl

@@ -7,12 +7,12 @@ use mathlib.Core.Bool.{Bool, true, false}
 use mathlib.Core.List.{List, [], _∷_, map, List·Memᴰ, List·Memᴰ·head, List·Memᴰ·not-nil, List·Memᴰ·cases-cons}
 use mathlib.Core.Logic.{⊎-elim}
 use mathlib.Core.Path.{_≡_, refl, sym, ap, _∙_}
-use Prim.Native.Nat.{ℕ, zero, suc, _+_, _-_, _≤_}
+use Prim.Native.Nat.{ℕ, _+_, _-_, _≤_}
 use native.Mathlib.Omega.{arith}
 use lib.Dec.{eqb}
 use lib.ListN.{length, take, drop}
-use Rattle.bases.specs.Letter.{letterOf, basesOf}
-use Rattle.bases.proofs.LetterLaws.{bases-length, bases-drop}
+use Rattle.bases.specs.Letter.{basesOf}
+use Rattle.bases.proofs.LetterLaws.{bases-length, bases-part}
 use Rattle.vcf.specs.declared.entry.Part.{Part}
 use Rattle.vcf.specs.declared.entry.Entry.{Entry}
 use Rattle.vcf.specs.Entry.{part, bytesOf}
@@ -27,14 +27,6 @@ use Rattle.normal.proofs.EntryLaws.{part-length, refBytes, Bounds, boun
 use Rattle.normal.proofs.SpelledLaws.{numbers, spelled-between}
 use Rattle.normal.proofs.NormalForm.{normal-exists}
 
-bases-take : (n : ℕ) (bs : List ℕ) → basesOf (take n bs) ≡ take n (basesOf bs)
-bases-take zero bs = refl
-bases-take (suc n) [] = refl
-bases-take (suc n) (b ∷ bs) = ap (λ (l : List ℕ). letterOf b ∷ l) (bases-take n bs)
-
-bases-part : (bs : List ℕ) (p : Part) → basesOf (bytesOf bs p) ≡ take (p .len) (drop (p .at) (basesOf bs))
-bases-part bs p = bases-take (p .len) (drop (p .at) bs) ∙ ap (take (p .len)) (bases-drop (p .at) bs)
-
 same-start : (s : ℕ) {a b : List ℕ} {x y : List (List ℕ)} → a ≡ b → x ≡ y → _≡_ {A = Form} (record { start = s; ref = a; alts = x }) (record { start = s; ref = b; alts = y })
 same-start s h j = cc
 
@@ -46,7 +38,7 @@ module _ (reference text : List ℕ) (e : Entry) (st : Stands reference text e) 
   form-on = (
     omega (arith, ref-length, bases-length reference),
     ap (λ (n : ℕ). take n (drop (startOf e) (basesOf reference))) ref-length
-        ∙ sym (bases-part reference (part (startOf e) (e .reference .len))),
+        ∙ sym (bases-part reference (startOf e) (e .reference .len)),
   )
 
   some-part : (p : Part) → Within text p → 1 ≤ length (basesOf (bytesOf text p))
@@ -88,7 +80,7 @@ module _ (reference text : List ℕ) (e : Entry) (st : Stands reference text e) 
       let long = between-length (basesOf reference) (startOf e) (omega (arith, bases-length reference)) (f .ref) (k .back) n (cut .left (f .ref) (List·Memᴰ·head refl)) in
       let span : startOf e + e .reference .len - k .back - n ≡ length (between (basesOf reference) (startOf e) (k .back) n (f .ref)) =
       ap (λ (z : ℕ). startOf e + z - k .back - n) (sym ref-length) ∙ sym long in
-      bases-part reference (part n (startOf e + e .reference .len - k .back - n))
+      bases-part reference n (startOf e + e .reference .len - k .back - n)
       ∙ ap (λ (z : ℕ). take z (drop n (basesOf reference))) span
       ∙ cut-on (basesOf reference) f form-on (k .back) n cut .1
 

@@ -74,7 +74,7 @@ allele a t =
     record { some = leb→le _ _ (s .0); short = leb→le _ _ (r .0); letters = r .1 }
 
 module _ (reference l : List ℕ) (good : T (allLetters? reference)) (one : Without LF l) (line : RecordLine reference l) where
-  self : lineAt l 0 ≡ l
+  pub self : lineAt l 0 ≡ l
   self = rw one (take-length l)
 
   ten : T (tenFields? (lineAt l 0))

@@ -1,5 +1,5 @@
 -- Laws of a text and its lines.
---     All, all-append, all-left, all-right     something holds of each line; of lines behind lines
+--     all-append, all-left, all-right, all-map     something holds of each line; of lines behind lines; of more
 --     lines-free                  the lines of a text hold no LF
 --     text-append, text-length    the text of lines behind lines; its length
 --     lines-text, text-lines      lines without LF are the lines of their text; a text that ends in LF is the text of its lines
@@ -17,12 +17,9 @@ use lib.Seq.{take-at, drop-append-add, getD-append-add}
 use Rattle.vcf.specs.Bytes.{LF, until}
 use Rattle.vcf.specs.List.{onto, pickLines, linesOf}
 use Rattle.vcf.proofs.ListLaws.{lines-cons}
+use Rattle.normal.specs.Lines.{All}
 use Rattle.normal.specs.Written.{textOf}
 use Rattle.normal.proofs.WithoutLaws.{Without, without-cons, until-found}
-
-abbrev pub All : (List ℕ → Type 0) → List (List ℕ) → Type 0
-All P [] = Unit {0}
-All P (l ∷ ls) = P l × All P ls
 
 pub all-append : (P : List ℕ → Type 0) (a b : List (List ℕ)) → All P a → All P b → All P (a ++ b)
 all-append P [] b h k = k

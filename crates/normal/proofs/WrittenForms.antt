@@ -27,11 +27,12 @@ use Rattle.vcf.proofs.RecordLineLaws.{RecordLine, record-line}
 use Rattle.normal.specs.Form.{Form, NormalForm}
 use Rattle.normal.specs.Cut.{normalOf}
 use Rattle.normal.specs.Spelled.{pickPart, pickAlts, formOf, Within, Stands, formSpelled}
+use Rattle.normal.specs.Lines.{All}
 use Rattle.normal.specs.Written.{newOn, newPos, writtenLine, putLine, writtenLines, textOf, writtenText}
 use Rattle.normal.proofs.HeaderLaws.{recordsOf}
 use Rattle.normal.proofs.NormalEntry.{normal-entry-form}
 use Rattle.normal.proofs.RecordEntryLaws.{line-stands, line-normal}
-use Rattle.normal.proofs.TextLaws.{All, all-map}
+use Rattle.normal.proofs.TextLaws.{all-map}
 use Rattle.normal.proofs.WithoutLaws.{Without}
 use Rattle.normal.proofs.WrittenAgain.{alts-same, same-form, written-form}
 use Rattle.normal.proofs.WrittenLine.{written-pos}

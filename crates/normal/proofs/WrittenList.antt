@@ -11,7 +11,7 @@ use mathlib.Core.List.{List, [], _∷_, _++_}
 use mathlib.Core.Path.{_≡_, refl, sym, ap, subst, _∙_}
 use Prim.Native.Nat.{ℕ, zero, suc, _+_, _-_, _≤_, _<_}
 use native.Mathlib.Omega.{arith}
-use borrow.Author.Tests.{eqb-true, not-false, eq-eqb, le-ltb, leb-false}
+use borrow.Author.Tests.{eqb-true, not-false, eq-eqb, le-ltb}
 use lib.Dec.{T, eqb, ltb, lit<}
 use lib.ListN.{length, getD, take, drop, length-append}
 use lib.Seq.{take-at, drop-at}
@@ -21,15 +21,16 @@ use Rattle.vcf.specs.Bytes.{LF}
 use Rattle.vcf.specs.Entry.{headerBytes, recordsAt}
 use Rattle.vcf.specs.List.{linesOf, longestText, textWrong?, above, judgeLines, judgeText}
 use Rattle.vcf.specs.Record.{mostRecords, posOn, recordRows}
-use Rattle.vcf.proofs.AcceptedLaws.{Records, RecordsFrom, accepted-records}
+use Rattle.vcf.proofs.AcceptedLaws.{Records, RecordsFrom, accepted-records, accepted-few-lines}
 use Rattle.vcf.proofs.JudgeLaws.{accepted-zero, text-fits}
 use Rattle.vcf.proofs.ListLaws.{judge-end-above, text-right}
 use Rattle.vcf.proofs.RecordLineLaws.{RecordLine, record-line}
 use Rattle.vcf.proofs.RowLaws.{NoneHolds}
+use Rattle.normal.specs.Lines.{All, Ordered}
 use Rattle.normal.specs.Written.{newPos, writtenLine, writtenLines, textOf, writtenText}
 use Rattle.normal.proofs.HeaderLaws.{headerOf, recordsOf, header-split, header-bytes, Kept, header-kept}
-use Rattle.normal.proofs.OrderLaws.{Ordered, written-ordered, written-all, written-count, written-bytes, written-same}
-use Rattle.normal.proofs.TextLaws.{All, all-append, all-left, all-right, all-map, lines-free, text-none, text-append, lines-text, text-lines, text-ends}
+use Rattle.normal.proofs.OrderLaws.{written-ordered, written-all, written-count, written-bytes, written-same}
+use Rattle.normal.proofs.TextLaws.{all-append, all-left, all-right, all-map, lines-free, text-none, text-append, lines-text, text-lines, text-ends}
 use Rattle.normal.proofs.WithoutLaws.{Without}
 use Rattle.normal.proofs.WrittenAgain.{written-free, written-again}
 use Rattle.normal.proofs.WrittenLine.{written-short, written-pos}
@@ -71,12 +72,6 @@ module _ (reference name : List ℕ) (ok : T (isReference? reference)) where
     read-all (records + 1) (posOn l) ls (f .1) (h .1),
   )
 
-  -- At most 512.
-  records-few : (records last : ℕ) (ls : List (List ℕ)) → records ≤ mostRecords → Records reference name records last ls → records + length ls ≤ mostRecords
-  records-few records last [] k h = omega arith
-  records-few records last (l ∷ ls) k h =
-      omega (arith, records-few (records + 1) (posOn l) ls (omega (arith, leb-false mostRecords records (h .0 .1 .1 .0))) (h .1))
-
   wrote-records : (n before : ℕ) (ms : List (List ℕ)) → All Wrote ms → Ordered before ms → n + length ms ≤ mostRecords → Records reference name n before ms
   wrote-records n before [] h o k = tt
   wrote-records n before (m ∷ ms) h o k = (h .0 .rows n before (omega arith) (o .0), wrote-records (n + 1) (posOn m) ms (h .1) (o .1) (omega arith))
@@ -106,7 +101,7 @@ module _ (reference name : List ℕ) (ok : T (isReference? reference)) where
     all-free : All (Without LF) (hs ++ rs)
     all-free = subst (All (Without LF)) (header-split (linesOf t)) (lines-free t)
 
-    header-part : take (recordsAt t) t ≡ textOf hs
+    pub header-part : take (recordsAt t) t ≡ textOf hs
     header-part = ap (take (recordsAt t)) parts ∙ take-at (textOf hs) (textOf rs) (recordsAt t) (sym (header-bytes (linesOf t)))
 
     pub record-part : drop (recordsAt t) t ≡ textOf rs
@@ -127,15 +122,8 @@ module _ (reference name : List ℕ) (ok : T (isReference? reference)) where
     pub all-wrote : All Wrote ws
     all-wrote = written-all reference Wrote Read wrote [] rs tt all-read
 
-    few : length rs ≤ mostRecords
-    few = go rs records
-      where
-        go : (ls : List (List ℕ)) → Records reference name (clear .records) (clear .last) ls → length ls ≤ mostRecords
-        go [] h = omega arith
-        go (l ∷ ls) h = omega (arith, records-few (clear .records) (clear .last) (l ∷ ls) (omega (arith, leb-false mostRecords (clear .records) (h .0 .1 .1 .0))) h)
-
     wrote-clear : Records reference name 0 0 ws
-    wrote-clear = wrote-records 0 0 ws all-wrote (written-ordered reference [] rs tt) (omega (arith, few, written-count reference [] rs))
+    wrote-clear = wrote-records 0 0 ws all-wrote (written-ordered reference [] rs tt) (omega (arith, ap length record-lines, accepted-few-lines reference name t accepted, written-count reference [] rs))
 
     pub text-written : writtenText reference t ≡ textOf (hs ++ ws)
     unfolding writtenText

@@ -1,5 +1,6 @@
 pub mod Cut
 pub mod Form
+pub mod Lines
 pub mod Put
 pub mod Spelled
 pub mod Written

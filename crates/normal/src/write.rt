@@ -6,14 +6,15 @@ ghost use lib.ListN.{length};
 ghost use lib.Dec.{T};
 ghost use Rattle.vcf.specs.Field.{tenFields?};
 ghost use Rattle.vcf.specs.Pos.{largestPos};
-ghost use Rattle.normal.specs.Put.{put, frontWith, backWith};
+ghost use Rattle.bases.specs.Put.{put};
+ghost use Rattle.normal.specs.Put.{frontWith, backWith};
 ghost use Rattle.normal.specs.Spelled.{bytesSpelled, OnBoth};
 ghost use Rattle.normal.specs.Written.{altsSpelled};
 use crate::entry::NormalEntry;
 use crate::entry::Spelled;
-use crate::put::put_byte;
-use crate::put::put_bytes;
 use crate::put::put_decimal;
+use bases::put::put_byte;
+use bases::put::put_bytes;
 use vcf::bytes::COMMA;
 use vcf::bytes::LF;
 use vcf::bytes::TAB;
@@ -64,7 +65,7 @@ pub fn put_alts(
 
 // Writes a line of ten fields up to its REF, with another POS.
 pub fn put_front(line: &[u8], pos: usize, out: &mut [u8], at: usize) -> usize
-    requires { ⌜ T (tenFields? (now line)) × (pos ≤ largestPos) × (at + length (frontWith (now line) pos) + 5 ≤ length (now out)) ⌝ }
+    requires { ⌜ T (tenFields? (now line)) × (pos ≤ largestPos) × (at + length (frontWith (now line) pos) ≤ length (now out)) ⌝ }
     ensures { λ r. ⌜ (r ≡ at + length (frontWith (now (line .entry)) pos)) × (now (out .exit) ≡ put (now (out .entry)) at (frontWith (now (line .entry)) pos)) ⌝ }
 {
     let fields = fields_of(line);

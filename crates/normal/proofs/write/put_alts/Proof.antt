@@ -7,7 +7,7 @@ use borrow.Author.Tests.{eq-eqb, ne-eqb}
 use lib.ListN.{length-append}
 use lib.Seq.{append-snoc}
 use Rattle.normal.specs.Spelled.{bytesSpelled}
-use Rattle.normal.proofs.PutLaws.{put-fits, put-more}
+use Rattle.bases.proofs.PutLaws.{put-fits, put-more}
 use Rattle.normal.proofs.write.put_alts.Statement.{statement}
 use Rattle.normal.proofs.write.put_alts.Tie as tie
 

@@ -4,7 +4,7 @@ use Prim.Native.Nat.{_+_, _-_}
 use native.Mathlib.Omega.{arith}
 use borrow.Author.Needs.{needs}
 use lib.ListN.{take, drop, length-append}
-use Rattle.normal.proofs.PutLaws.{put-fits, put-more}
+use Rattle.bases.proofs.PutLaws.{put-fits, put-more}
 use Rattle.normal.proofs.write.put_spelled.Statement.{statement}
 use Rattle.normal.proofs.write.put_spelled.Tie as tie
 
