@@ -1,26 +1,20 @@
 -- Laws of the two lists' donors, compared over a stretch.
---     same-between        what stands before and behind is no matter where it is equal
---     same-fronts         two buffers' fronts are equal exactly if the donors that stand there are
 --     ready-builds        a table that is ready can be built from, for either list
 --     donor-over          a list's donor is the reference but for the stretch
 --     one-donor           the lists have one donor exactly if their donors of the stretch are equal
 -- Assumes nothing.
-use mathlib.Core.Bool.{Bool, true, false}
-use mathlib.Core.List.{List, [], _++_, append-cancel-left, append-cancel-right}
-use mathlib.Core.Logic.{_↔_}
-use mathlib.Core.Path.{_≡_, sym, ap, subst, _∙_}
+use mathlib.Core.Bool.{Bool}
+use mathlib.Core.List.{List, [], _++_}
+use mathlib.Core.Path.{_≡_, ap, subst, _∙_}
 use Prim.Native.Nat.{ℕ, _+_, _-_, _≤_}
 use native.Mathlib.Omega.{arith}
-use lib.Dec.{T}
-use lib.ListN.{take, drop}
+use lib.ListN.{drop}
 use Rattle.bases.specs.Letter.{basesOf}
 use Rattle.bases.specs.Same.{same?}
 use Rattle.bases.proofs.LetterLaws.{bases-length}
-use Rattle.bases.proofs.SameLaws.{same-iff}
-use Rattle.bases.proofs.TestLaws.{is-true, is-false}
 use Rattle.donors.specs.Agree.{Ready, ApartOn, donorBy, oneDonor?}
 use Rattle.donors.specs.Apart.{Chain}
-use Rattle.donors.specs.Build.{Sound, editsIn, donorIn, Buildable, Written}
+use Rattle.donors.specs.Build.{Sound}
 use Rattle.donors.specs.Choice.{Copy, cardRules}
 use Rattle.donors.specs.Donor.{part}
 use Rattle.donors.specs.Items.{over}
@@ -29,19 +23,8 @@ use Rattle.donors.specs.Table.{rowAt, pickList, variantsFrom, choicesFro
 use Rattle.donors.proofs.ApartLaws.{chain-split}
 use Rattle.donors.proofs.DonorLaws.{EndsBy, StartsFrom, donor-start, donor-stop, donor-length}
 use Rattle.donors.proofs.EditLaws.{edits-ends, edits-starts, adds-over}
-use Rattle.donors.proofs.StandLaws.{written-front}
-use Rattle.donors.proofs.TableLaws.{edits-own}
-
--- two tests that say the same are equal
-alike : (s t : Bool) → (T s ↔ T t) → s ≡ t
-alike true t f = sym (is-true t (f .0 tt))
-alike false t f = sym (is-false t (λ h. f .1 h))
-
-pub same-between : (p s x y : List ℕ) → same? (p ++ (x ++ s)) (p ++ (y ++ s)) ≡ same? x y
-same-between p s x y = alike _ _ (
-  λ t. same-iff x y .1 (append-cancel-right x y s (append-cancel-left p (x ++ s) (y ++ s) (same-iff (p ++ (x ++ s)) (p ++ (y ++ s)) .0 t))),
-  λ t. same-iff (p ++ (x ++ s)) (p ++ (y ++ s)) .1 (ap (λ (z : List ℕ). p ++ (z ++ s)) (same-iff x y .0 t)),
-)
+use Rattle.donors.proofs.FrontLaws.{same-between}
+use Rattle.donors.proofs.StretchLaws.{editsIn, donorIn, Buildable, edits-own}
 
 module _ (reference first second t φ : List ℕ) (h : Copy) (n a b space1 space2 : ℕ)
     (r : Ready reference first second t n a b space1 space2) (p : ApartOn reference first second t φ h n) where
@@ -88,6 +71,3 @@ module _ (reference first second t φ : List ℕ) (h : Copy) (n a b space1 space
   one-donor =
       rw (donor-over list1, donor-over list2)
       (same-between (part (basesOf reference) 0 a) (drop b (basesOf reference)) (donorIn reference first t φ list1 h n a b) (donorIn reference second t φ list2 h n a b))
-
-pub same-fronts : (D E d e : List ℕ) (m n : ℕ) (x y : List ℕ) → Written D m d x → Written E n e y → same? (take m x) (take n y) ≡ same? D E
-same-fronts D E d e m n x y v w = rw (written-front D d m x v, written-front E e n y w)

@@ -15,10 +15,8 @@ use Rattle.donors.proofs.table.allele_of.Kinds as allele-of-kinds
 use Rattle.donors.proofs.table.allele_of.Reads as allele-of
 use Rattle.donors.proofs.table.is_of.Kinds as is-of-kinds
 use Rattle.donors.proofs.table.is_of.Reads as is-of
-use Rattle.donors.proofs.build.put_bases.Kinds as put-bases-kinds
-use Rattle.donors.proofs.build.put_bases.Reads as put-bases
-use Rattle.donors.proofs.build.build.Kinds as build-kinds
-use Rattle.donors.proofs.build.build.Reads as build
+use Rattle.donors.proofs.build.add_row.Kinds as add-row-kinds
+use Rattle.donors.proofs.build.add_row.Reads as add-row
 use Rattle.donors.proofs.agree.donors_agree.Kinds as donors-agree-kinds
 use Rattle.donors.proofs.agree.donors_agree.Reads as donors-agree
 
@@ -28,23 +26,17 @@ row-at-determines κs a z z′ e e′ p q = p ∙ sym q
 pub is-chosen-determines : OneResult 0 is-chosen-kinds.ps is-chosen-kinds.r is-chosen.Post
 is-chosen-determines κs a z z′ e e′ p q = p ∙ sym q
 
-pub allele-of-determines : OneResult 0 allele-of-kinds.ps allele-of-kinds.r allele-of.Post
+pub allele-of-determines : OneResult 1 allele-of-kinds.ps allele-of-kinds.r allele-of.Post
 allele-of-determines κs a z z′ e e′ p q = p ∙ sym q
 
-pub is-of-determines : OneResult 0 is-of-kinds.ps is-of-kinds.r is-of.Post
+pub is-of-determines : OneResult 1 is-of-kinds.ps is-of-kinds.r is-of.Post
 is-of-determines κs a z z′ e e′ p q = p ∙ sym q
 
-pub put-bases-determines : OneResult 2 put-bases-kinds.ps put-bases-kinds.r put-bases.Post
-put-bases-determines κs a z z′ e e′ p q = p .0 ∙ sym (q .0)
+pub add-row-determines : OneResult 4 add-row-kinds.ps add-row-kinds.r add-row.Post
+add-row-determines κs a z z′ e e′ p q = p .0 ∙ sym (q .0)
 
-pub put-bases-leaves : OneLeft 2 put-bases-kinds.ps put-bases-kinds.r put-bases.Post (List ℕ) (λ κs e. now (e .1 .0))
-put-bases-leaves κs a z z′ e e′ p q = p .1 ∙ sym (q .1)
-
-pub build-determines : OneResult 4 build-kinds.ps build-kinds.r build.Post
-build-determines κs a z z′ e e′ p q = p .len ∙ sym (q .len)
-
-pub build-leaves : OneLeft 4 build-kinds.ps build-kinds.r build.Post (List ℕ) (λ κs e. now (e .1 .1 .1 .1 .1 .1 .1 .1 .1 .0))
-build-leaves κs a z z′ e e′ p q = p .written ∙ sym (q .written)
+pub add-row-leaves : OneLeft 4 add-row-kinds.ps add-row-kinds.r add-row.Post (List ℕ) (λ κs e. now (e .1 .1 .1 .1 .1 .1 .1 .1 .0))
+add-row-leaves κs a z z′ e e′ p q = p .1 ∙ sym (q .1)
 
 pub donors-agree-determines : OneResult 6 donors-agree-kinds.ps donors-agree-kinds.r donors-agree.Post
 donors-agree-determines κs a z z′ e e′ p q = p ∙ sym q

@@ -6,6 +6,10 @@ pub mod Determines
 pub mod DonorLaws
 pub mod EditLaws
 pub mod Examples
+pub mod FrontLaws
+pub mod PairLaws
 pub mod PartLaws
+pub mod RowsLaws
 pub mod StandLaws
+pub mod StretchLaws
 pub mod TableLaws

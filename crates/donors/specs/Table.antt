@@ -23,6 +23,10 @@ most = 12
 abbrev pub numberAt : List ℕ → ℕ → ℕ → ℕ
 numberAt t i k = getD t (i * width + k) 0
 
+-- The allele whose three numbers stand from place k of a table on.
+abbrev pub alleleFrom : List ℕ → ℕ → Allele
+alleleFrom t k = record { text = eqb (getD t k 0) 1; at = getD t (k + 1) 0; len = getD t (k + 2) 0 }
+
 -- Row i of a table.
 abbrev pub rowAt : List ℕ → ℕ → Row
 rowAt t i = record {
@@ -90,3 +94,11 @@ alleleOf r plus copy1 = r .copy1
 alleleOf r minus copy0 = r .copy1
 alleleOf r minus copy1 = r .copy0
 alleleOf r out h = r .copy0
+
+-- Where in its row the numbers of that allele begin.
+abbrev pub placeOf : Choice → Copy → ℕ
+placeOf plus copy0 = 3
+placeOf plus copy1 = 6
+placeOf minus copy0 = 6
+placeOf minus copy1 = 3
+placeOf out h = 3

@@ -3,7 +3,7 @@
 --     entries-length, entries-at
 --                               how many there are, and which stands at a place
 --     ready-room                what a table is ready for is a matter of how much room there is, and not of what stands there
---     legal-first, legal-both   choices that do not overlap are not legal where the donors differ on copy 0, and else as the donors on copy 1 say
+--     legal-not, legal-all      choices that do not overlap are not legal where the donors differ on a copy, and legal where they do on none
 -- Assumes nothing.
 use mathlib.Core.Bool.{Bool, true, false, _&&_}
 use mathlib.Core.List.{List, _∷_, _++_}
@@ -16,8 +16,8 @@ use lib.ListN.{length}
 use Rattle.bases.specs.Letter.{basesOf}
 use Rattle.bases.proofs.TestLaws.{is-true}
 use Rattle.donors.specs.Agree.{Ready, oneDonor?}
-use Rattle.donors.specs.Choice.{copy0, copy1, Variant, cardRules}
-use Rattle.donors.specs.Table.{rowAt, pickList, variantOf, variantsFrom, choicesFrom}
+use Rattle.donors.specs.Choice.{Copy, copy0, copy1, Variant, cardRules}
+use Rattle.donors.specs.Table.{rowAt, pickList, variantOf, variantsFrom, choicesFrom, copyOf}
 use Rattle.matching.specs.BestOf.{every?, keep?}
 use Rattle.matching.specs.Card.{cardFinite}
 use Rattle.matching.specs.Made.{Kept, cardLegal?}
@@ -60,13 +60,13 @@ module _ (reference first second t : List ℕ) where
     legal-donors u v e f =
         rw (eq-eqb (length (choicesFrom choices 0 n)) (length (entries 0 n)) (choices-length choices 0 n ∙ sym (entries-length 0 n)), is-true (keep? cardRules cardFinite (entries 0 n) (choicesFrom choices 0 n)) k, e, f)
 
-    pub legal-first : oneDonor? reference first second t choices copy0 n ≡ false → cardLegal? (basesOf reference) (entries 0 n) (choicesFrom choices 0 n) ≡ false
-    legal-first e = legal-donors false _ e refl
-
-    pub legal-both : {v : Bool} → oneDonor? reference first second t choices copy0 n ≡ true → oneDonor? reference first second t choices copy1 n ≡ v
-        → cardLegal? (basesOf reference) (entries 0 n) (choicesFrom choices 0 n) ≡ v
-    legal-both {v} e f = legal-donors true v e f ∙ go v
+    pub legal-not : (h : Copy) → oneDonor? reference first second t choices h n ≡ false → cardLegal? (basesOf reference) (entries 0 n) (choicesFrom choices 0 n) ≡ false
+    legal-not copy0 e = legal-donors false _ e refl
+    legal-not copy1 e = legal-donors _ false refl e ∙ go (oneDonor? reference first second t choices copy0 n)
       where
-        go : (v : Bool) → v && true ≡ v
+        go : (u : Bool) → u && false ≡ false
         go true = refl
         go false = refl
+
+    pub legal-all : ((k : ℕ) → k < 2 → oneDonor? reference first second t choices (copyOf k) n ≡ true) → cardLegal? (basesOf reference) (entries 0 n) (choicesFrom choices 0 n) ≡ true
+    legal-all f = legal-donors true true (f 0 (omega arith)) (f 1 (omega arith))

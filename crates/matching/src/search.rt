@@ -33,34 +33,26 @@ fn is_legal(
     requires { ⌜ Ready (now reference) (now first) (now second) (now table) n from to (length (now mine)) (length (now other)) × Kept (variantsFrom (now reference) (now first) (now second) (now table) 0 n) (choicesFrom choices 0 n) ⌝ }
     ensures { λ r. ⌜ r ≡ cardLegal? (basesOf (now (reference .entry))) (variantsFrom (now (reference .entry)) (now (first .entry)) (now (second .entry)) (now (table .entry)) 0 n) (choicesFrom choices 0 n) ⌝ }
 {
-    if !donors_agree(
-        reference,
-        first,
-        second,
-        table,
-        n,
-        choices,
-        0,
-        from,
-        to,
-        mine,
-        other,
-    ) {
-        return false;
+    let mut copy: usize = 0;
+    while copy < 2 {
+        if !donors_agree(
+            reference,
+            first,
+            second,
+            table,
+            n,
+            choices,
+            copy,
+            from,
+            to,
+            mine,
+            other,
+        ) {
+            return false;
+        }
+        copy += 1;
     }
-    donors_agree(
-        reference,
-        first,
-        second,
-        table,
-        n,
-        choices,
-        1,
-        from,
-        to,
-        mine,
-        other,
-    )
+    true
 }
 
 // The best legal choices that go on from those made, with `left` of the n entries left. Beside the choices made go the ends of each list and their score:

@@ -1,67 +1,190 @@
--- `donors::agree::donors_agree` meets its contract: each buffer's front is a list's donor of the stretch, and outside the stretch both donors are the
--- reference. Assumes nothing.
-use mathlib.Core.Path.{sym, ap, _∙_}
-use lib.ListN.{length}
-use Rattle.donors.specs.Rules.{list1, list2}
-use Rattle.donors.specs.Table.{copyOf}
-use Rattle.donors.proofs.AgreeLaws.{same-fronts, ready-builds, one-donor}
-use Rattle.donors.proofs.StandLaws.{written-front, written-fits}
+-- `donors::agree::donors_agree` meets its contract. The loop's invariant: of each list's donor over the stretch the front that the rows before i make stands in its
+-- buffer, and the two agree as far as both go. The measure is what is left of the rows. Assumes nothing.
+use mathlib.Core.Path.{refl, sym, _∙_}
+use Prim.Native.Nat.{_-_, _≤_}
+use native.Mathlib.Omega.{arith}
 use borrow.Author.Needs.{needs}
+use borrow.Author.Tests.{not-true, not-false}
+use lib.ListN.{length}
+use Rattle.donors.specs.Table.{copyOf}
+use Rattle.donors.proofs.PairLaws.{Pair, pair-start, pair-skip, one-fits, two-fits, added-seen, added-space, added-stop, added-more, one-rest, two-rest, last-seen, last-rooms, last-answer}
 use Rattle.donors.proofs.agree.donors_agree.Statement.{statement}
 use Rattle.donors.proofs.agree.donors_agree.Tie as tie
 
-build-requires : tie.Need-build-requires
-build-requires c κs =
-    let a = c .before .before .before .before .before .before .before .args in
-    let p = c .before .before .before .before .before .before .before .pre in
-    ready-builds (a .reference .now) (a .first .now) (a .second .now) (a .table .now) (a .choices) (copyOf (a .copy)) (a .n) (a .from) (a .to) (length (a .mine .now)) (length (a .other .now)) (p .0) (p .1) list1 (length (a .mine .now)) (p .0 .room1)
+abbrev Inv-loop : tie.InvT-loop
+Inv-loop reference first second table n copy from to mine₀ other₀ choices a₀ b₀ i₀ mine other a b i =
+    (i ≤ n) × Pair reference first second table choices (copyOf copy) n from to (length mine₀) (length other₀) i a b mine other
 
-build-requires-2 : tie.Need-build-requires-2
-build-requires-2 c κs =
-    let a = c .before .before .before .before .before .before .before .before .before .before .before .args in
-    let p = c .before .before .before .before .before .before .before .before .before .before .before .pre in
-    ready-builds (a .reference .now) (a .first .now) (a .second .now) (a .table .now) (a .choices) (copyOf (a .copy)) (a .n) (a .from) (a .to) (length (a .mine .now)) (length (a .other .now)) (p .0) (p .1) list2 (length (a .other .now)) (p .0 .room2)
+abbrev μ-loop : tie.MeasureT-loop
+μ-loop reference first second table n copy from to mine₀ other₀ choices a₀ b₀ i₀ mine other a b i = n - i
 
-slice-reshare-prefix-same-bytes : tie.Need-slice-reshare-prefix-same-bytes
-slice-reshare-prefix-same-bytes c = written-fits _ _ _ _ (c .before .before .before .before .before .before .build .ensures)
+loop-holds : tie.Need-loop-holds Inv-loop μ-loop
+loop-holds c =
+    let s = c .before .before .before .before .before .before in
+    (omega arith, pair-start (s .pre .0) (s .pre .1) (s .args .mine .now) (s .args .other .now) refl refl)
 
-slice-aggregate-same-bytes : tie.Need-slice-aggregate-same-bytes
-slice-aggregate-same-bytes c = c .before .before .before .before .before .before .before .build .ensures .len ∙ sym (ap length (written-front _ _ _ _ (c .before .before .before .before .before .before .before .build .ensures)))
+array-read-is-chosen : tie.Need-array-read-is-chosen Inv-loop μ-loop
+array-read-is-chosen c = omega (arith, c .before .before .before .before .before .before .before .before .pre .0 .few)
 
-slice-reshare-prefix-same-bytes-2 : tie.Need-slice-reshare-prefix-same-bytes-2
-slice-reshare-prefix-same-bytes-2 c = written-fits _ _ _ _ (c .before .before .before .build2 .ensures)
+is-chosen-requires : tie.Need-is-chosen-requires Inv-loop μ-loop
+is-chosen-requires c κs = search needs
 
-slice-aggregate-same-bytes-2 : tie.Need-slice-aggregate-same-bytes-2
-slice-aggregate-same-bytes-2 c = c .before .before .before .before .build2 .ensures .len ∙ sym (ap length (written-front _ _ _ _ (c .before .before .before .before .build2 .ensures)))
+add-i : tie.Need-add-i Inv-loop μ-loop
+add-i c = omega arith
 
-same-bytes-requires : tie.Need-same-bytes-requires
-same-bytes-requires c κs = search needs
+loop-less : tie.Need-loop-less Inv-loop μ-loop
+loop-less c = omega arith
 
-same-length : tie.Need-same-length
-same-length c = search needs
+loop-again : tie.Need-loop-again Inv-loop μ-loop
+loop-again c =
+    let s = c .before .before .before .before .before .before .before .before .before .before in
+    let e = sym (c .before .is-chosen .ensures) ∙ not-true (c .before .is-chosen .result) (c .if1 .taken) in
+    (omega arith, pair-skip (s .pre .0) (s .pre .1) (c .before .before .loop-test .taken) (c .before .before .before .loop .inv .1) e)
 
-same-length-2 : tie.Need-same-length-2
-same-length-2 c = search needs
+shorter-requires : tie.Need-shorter-requires Inv-loop μ-loop
+shorter-requires c κs = search needs
 
-returns : tie.Need-returns
+array-read-add-row : tie.Need-array-read-add-row Inv-loop μ-loop
+array-read-add-row c = omega (arith, c .before .before .before .before .before .before .before .before .before .before .before .pre .0 .few)
+
+add-row-requires : tie.Need-add-row-requires Inv-loop μ-loop
+add-row-requires c κs =
+    let s = c .before .before .before .before .before .before .before .before .before .before .before .before in
+    let e = sym (c .before .before .before .is-chosen .ensures) ∙ not-false (c .before .before .before .is-chosen .result) (c .before .before .if1 .left) in
+    (omega (arith, s .pre .0 .rows), e, one-fits (s .pre .0) (s .pre .1) (c .before .before .before .before .loop-test .taken) (c .before .before .before .before .before .loop .inv .1))
+
+array-read-add-row-2 : tie.Need-array-read-add-row-2 Inv-loop μ-loop
+array-read-add-row-2 c = omega (arith, c .before .before .before .before .before .before .before .before .before .before .before .before .before .before .before .pre .0 .few)
+
+add-row-requires-2 : tie.Need-add-row-requires-2 Inv-loop μ-loop
+add-row-requires-2 c κs =
+    let s = c .before .before .before .before .before .before .before .before .before .before .before .before .before .before .before .before in
+    let e = sym (c .before .before .before .before .before .before .before .is-chosen .ensures) ∙ not-false (c .before .before .before .before .before .before .before .is-chosen .result) (c .before .before .before .before .before .before .if1 .left) in
+    (omega (arith, s .pre .0 .rows), e, two-fits (s .pre .0) (s .pre .1) (c .before .before .before .before .before .before .before .before .loop-test .taken) (c .before .before .before .before .before .before .before .before .before .loop .inv .1))
+
+agree-behind-requires : tie.Need-agree-behind-requires Inv-loop μ-loop
+agree-behind-requires c κs =
+    let s = c .before .before .before .before .before .before .before .before .before .before .before .before .before .before .before .before .before .before .before .before .before in
+    let w = c .before .before .before .before .before .before .before .before .before .before .before .before .before .before .loop .inv .1 in
+    let p = c .before .before .before .before .before .before .before .before .add-row .ensures in
+    let q = c .before .before .before .before .add-row2 .ensures in
+    added-seen (s .pre .0) (s .pre .1) (c .before .before .before .before .before .before .before .before .before .before .before .before .before .loop-test .taken) w (p .0) (p .1) (q .0) (q .1) _ (c .before .before .before .before .before .before .before .before .before .before .shorter .ensures)
+
+same-length : tie.Need-same-length Inv-loop μ-loop
+same-length c =
+    let s = c .before .before .before .before .before .before .before .before .before .before .before .before .before .before .before .before .before .before .before .before .before .before .before in
+    let w = c .before .before .before .before .before .before .before .before .before .before .before .before .before .before .before .before .loop .inv .1 in
+    let p = c .before .before .before .before .before .before .before .before .before .before .add-row .ensures in
+    let q = c .before .before .before .before .before .before .add-row2 .ensures in
+    added-space (s .pre .0) (s .pre .1) (c .before .before .before .before .before .before .before .before .before .before .before .before .before .before .before .loop-test .taken) w (p .0) (p .1) (q .0) (q .1) .0
+
+same-length-2 : tie.Need-same-length-2 Inv-loop μ-loop
+same-length-2 c =
+    let s = c .before .before .before .before .before .before .before .before .before .before .before .before .before .before .before .before .before .before .before .before .before .before .before in
+    let w = c .before .before .before .before .before .before .before .before .before .before .before .before .before .before .before .before .loop .inv .1 in
+    let p = c .before .before .before .before .before .before .before .before .before .before .add-row .ensures in
+    let q = c .before .before .before .before .before .before .add-row2 .ensures in
+    added-space (s .pre .0) (s .pre .1) (c .before .before .before .before .before .before .before .before .before .before .before .before .before .before .before .loop-test .taken) w (p .0) (p .1) (q .0) (q .1) .1
+
+returns : tie.Need-returns Inv-loop μ-loop
 returns c =
-    let a = c .before .before .before .before .before .before .before .before .before .before .before .before .before .before .before .before .before .args in
-    let p = c .before .before .before .before .before .before .before .before .before .before .before .before .before .before .before .before .before .pre in
-    c .same-bytes .ensures
-    ∙ same-fronts _ _ _ _ _ _ _ _ (c .before .before .before .before .before .before .before .before .before .build .ensures) (c .before .before .before .before .before .build2 .ensures)
-    ∙ sym (one-donor (a .reference .now) (a .first .now) (a .second .now) (a .table .now) (a .choices) (copyOf (a .copy)) (a .n) (a .from) (a .to) (length (a .mine .now)) (length (a .other .now)) (p .0) (p .1))
+    let s = c .before .before .before .before .before .before .before .before .before .before .before .before .before .before .before .before .before .before .before .before .before .before .before in
+    let w = c .before .before .before .before .before .before .before .before .before .before .before .before .before .before .before .before .loop .inv .1 in
+    let p = c .before .before .before .before .before .before .before .before .before .before .add-row .ensures in
+    let q = c .before .before .before .before .before .before .add-row2 .ensures in
+    let e = sym (c .before .agree-behind .ensures) ∙ not-true (c .before .agree-behind .result) (c .if2 .taken) in
+    sym (added-stop (s .pre .0) (s .pre .1) (c .before .before .before .before .before .before .before .before .before .before .before .before .before .before .before .loop-test .taken) w (p .0) (p .1) (q .0) (q .1) _ e)
+
+add-i-2 : tie.Need-add-i-2 Inv-loop μ-loop
+add-i-2 c = omega (arith, c .before .before .before .before .before .before .before .before .before .before .before .before .before .before .before .loop-test .taken, c .before .before .before .before .before .before .before .before .before .before .before .before .before .before .before .before .before .before .before .before .before .before .before .pre .0 .few)
+
+loop-less-2 : tie.Need-loop-less-2 Inv-loop μ-loop
+loop-less-2 c = omega (arith, c .before .before .before .before .before .before .before .before .before .before .before .before .before .before .before .loop-test .taken)
+
+loop-again-2 : tie.Need-loop-again-2 Inv-loop μ-loop
+loop-again-2 c =
+    let s = c .before .before .before .before .before .before .before .before .before .before .before .before .before .before .before .before .before .before .before .before .before .before .before in
+    let w = c .before .before .before .before .before .before .before .before .before .before .before .before .before .before .before .before .loop .inv .1 in
+    let p = c .before .before .before .before .before .before .before .before .before .before .add-row .ensures in
+    let q = c .before .before .before .before .before .before .add-row2 .ensures in
+    let e = sym (c .before .agree-behind .ensures) ∙ not-false (c .before .agree-behind .result) (c .if2 .left) in
+    (omega (arith, c .before .before .before .before .before .before .before .before .before .before .before .before .before .before .before .loop-test .taken), added-more (s .pre .0) (s .pre .1) (c .before .before .before .before .before .before .before .before .before .before .before .before .before .before .before .loop-test .taken) w (p .0) (p .1) (q .0) (q .1) _ (c .before .before .before .before .before .before .before .before .before .before .before .before .shorter .ensures) e)
+
+shorter-requires-2 : tie.Need-shorter-requires-2 Inv-loop μ-loop
+shorter-requires-2 c κs = search needs
+
+add-rest-requires : tie.Need-add-rest-requires Inv-loop μ-loop
+add-rest-requires c κs =
+    let s = c .before .before .before .before .before .before .before .before .before .before in
+    let w = c .before .before .before .loop .inv .1 in
+    one-rest (s .pre .0) (s .pre .1) (c .before .before .loop-test .left) w
+
+add-rest-requires-2 : tie.Need-add-rest-requires-2 Inv-loop μ-loop
+add-rest-requires-2 c κs =
+    let s = c .before .before .before .before .before .before .before .before .before .before .before .before .before .before in
+    let w = c .before .before .before .before .before .before .before .loop .inv .1 in
+    two-rest (s .pre .0) (s .pre .1) (c .before .before .before .before .before .before .loop-test .left) w
+
+agree-behind-requires-2 : tie.Need-agree-behind-requires-2 Inv-loop μ-loop
+agree-behind-requires-2 c κs =
+    let s = c .before .before .before .before .before .before .before .before .before .before .before .before .before .before .before .before .before .before .before in
+    let w = c .before .before .before .before .before .before .before .before .before .before .before .before .loop .inv .1 in
+    let p = c .before .before .before .before .before .before .before .before .add-rest .ensures in
+    let q = c .before .before .before .before .add-rest2 .ensures in
+    last-seen (s .pre .0) (s .pre .1) (c .before .before .before .before .before .before .before .before .before .before .before .loop-test .left) w (p .0) (p .1) (q .0) (q .1) _ (c .before .before .before .before .before .before .before .before .before .before .shorter2 .ensures)
+
+same-length-3 : tie.Need-same-length-3 Inv-loop μ-loop
+same-length-3 c =
+    let s = c .before .before .before .before .before .before .before .before .before .before .before .before .before .before .before .before .before .before .before .before in
+    let w = c .before .before .before .before .before .before .before .before .before .before .before .before .before .loop .inv .1 in
+    let p = c .before .before .before .before .before .before .before .before .before .add-rest .ensures in
+    let q = c .before .before .before .before .before .add-rest2 .ensures in
+    last-rooms (s .pre .0) (s .pre .1) (c .before .before .before .before .before .before .before .before .before .before .before .before .loop-test .left) w (p .0) (p .1) (q .0) (q .1) .0
+
+same-length-4 : tie.Need-same-length-4 Inv-loop μ-loop
+same-length-4 c =
+    let s = c .before .before .before .before .before .before .before .before .before .before .before .before .before .before .before .before .before .before .before .before in
+    let w = c .before .before .before .before .before .before .before .before .before .before .before .before .before .loop .inv .1 in
+    let p = c .before .before .before .before .before .before .before .before .before .add-rest .ensures in
+    let q = c .before .before .before .before .before .add-rest2 .ensures in
+    last-rooms (s .pre .0) (s .pre .1) (c .before .before .before .before .before .before .before .before .before .before .before .before .loop-test .left) w (p .0) (p .1) (q .0) (q .1) .1
+
+returns-2 : tie.Need-returns-2 Inv-loop μ-loop
+returns-2 c =
+    let s = c .before .before .before .before .before .before .before .before .before .before .before .before .before .before .before .before .before .before .before .before in
+    let w = c .before .before .before .before .before .before .before .before .before .before .before .before .before .loop .inv .1 in
+    let p = c .before .before .before .before .before .before .before .before .before .add-rest .ensures in
+    let q = c .before .before .before .before .before .add-rest2 .ensures in
+    rw (c .agree-behind2 .ensures) (last-answer (s .pre .0) (s .pre .1) (c .before .before .before .before .before .before .before .before .before .before .before .before .loop-test .left) w (p .0) (p .1) (q .0) (q .1) _ (c .before .before .before .before .before .before .before .before .before .before .before .shorter2 .ensures))
 
 pub donors-agree-spec : {M : Type 1} → statement M
 donors-agree-spec =
     tie.close
     (tie.spec
-    build-requires
-    build-requires-2
-    slice-reshare-prefix-same-bytes
-    slice-aggregate-same-bytes
-    slice-reshare-prefix-same-bytes-2
-    slice-aggregate-same-bytes-2
-    same-bytes-requires
+    Inv-loop
+    μ-loop
+    loop-holds
+    array-read-is-chosen
+    is-chosen-requires
+    add-i
+    loop-less
+    loop-again
+    shorter-requires
+    array-read-add-row
+    add-row-requires
+    array-read-add-row-2
+    add-row-requires-2
+    agree-behind-requires
     same-length
     same-length-2
-    returns)
+    returns
+    add-i-2
+    loop-less-2
+    loop-again-2
+    shorter-requires-2
+    add-rest-requires
+    add-rest-requires-2
+    agree-behind-requires-2
+    same-length-3
+    same-length-4
+    returns-2)

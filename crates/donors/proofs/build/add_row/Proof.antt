@@ -1,58 +1,57 @@
--- `donors::build::add_row` meets its contract: an entry that is not of the list, or not chosen, adds nothing; of another the reference up to its span is
--- written, and its allele behind that. Assumes nothing.
+-- `donors::build::add_row` meets its contract: a row that is not of the list adds nothing; of another the reference up to its span is written, and its allele
+-- behind that. Assumes nothing.
 use mathlib.Core.Bool.{Bool·beq}
-use mathlib.Core.Path.{refl, sym, ap, _∙_}
+use mathlib.Core.Path.{sym, ap, _∙_}
 use Prim.Native.Nat.{_+_, _≤_}
 use native.Mathlib.Omega.{arith}
 use borrow.Author.Needs.{needs}
 use borrow.Author.Tests.{not-true, not-false}
 use lib.Dec.{T}
 use lib.ListN.{length}
-use lib.Seq.{length-paste}
-use Rattle.bases.specs.Letter.{basesOf}
-use Rattle.bases.proofs.LetterLaws.{bases-length}
-use Rattle.bases.proofs.TestLaws.{both, of-true, is-true}
+use Rattle.bases.proofs.PutLaws.{put-length}
+use Rattle.bases.proofs.TestLaws.{both, of-true}
 use Rattle.donors.specs.declared.table.Allele.{Allele}
-use Rattle.donors.specs.Build.{Sound}
-use Rattle.donors.specs.Choice.{chosen?, cardRules}
+use Rattle.donors.specs.declared.table.Row.{Row}
+use Rattle.donors.specs.Build.{Sound, rowTakes?}
+use Rattle.donors.specs.Choice.{chosen?}
 use Rattle.donors.specs.Donor.{part}
-use Rattle.donors.specs.Rules.{takes?}
-use Rattle.donors.specs.Table.{pickList, variantOf, choiceOf, copyOf, alleleOf}
-use Rattle.donors.proofs.BuildLaws.{and-false, added-none, added-some, added-length, allele-fits}
+use Rattle.donors.specs.Table.{rowAt, pickList, choiceOf, copyOf, alleleOf}
+use Rattle.donors.proofs.BuildLaws.{row-none, row-length, row-built, row-some, allele-fits}
 use Rattle.donors.proofs.build.add_row.Statement.{statement}
 use Rattle.donors.proofs.build.add_row.Tie as tie
 
--- the entry takes its span
-abbrev Taken : tie.Start → Type 0
-Taken s = T (takes? cardRules (s .args .first) (copyOf (s .args .copy)) (variantOf (s .args .reference .now) (s .args .text .now) (s .args .row)) (choiceOf (s .args .choice)))
+-- the row, and the allele that it puts
+abbrev row : tie.Start → Row
+row s = rowAt (s .args .table .now) (s .args .i)
 
--- behind both tests it does
-taken : (c : tie.Else2) → Taken (c .before .before .before .before .before .before .before)
-taken c =
-    let a = c .before .before .before .before .before .before .before .args in
-    let e = not-false (c .before .before .before .is-of .result) (c .before .before .if1 .left) in
-    let f = not-false (c .before .is-chosen .result) (c .if2 .left) in
-    both (Bool·beq (a .first) (a .row .first)) (chosen? (choiceOf (a .choice))) .1
-    (of-true (sym (c .before .before .before .is-of .ensures) ∙ e), of-true (sym (c .before .is-chosen .ensures) ∙ f))
-
--- the allele that it puts
 abbrev allele : tie.Start → Allele
-allele s = alleleOf (s .args .row) (choiceOf (s .args .choice)) (copyOf (s .args .copy))
+allele s = alleleOf (row s) (choiceOf (s .args .choice)) (copyOf (s .args .copy))
 
--- where it does its row is sound, its allele lies where it is said to lie, and there is room for the reference up to its span and for its allele
+-- it takes its span
+abbrev Taken : tie.Start → Type 0
+Taken s = T (rowTakes? (s .args .reference .now) (s .args .text .now) (row s) (choiceOf (s .args .choice)) (s .args .first) (copyOf (s .args .copy)))
+
+-- behind the test it does
+taken : (c : tie.Else1) → Taken (c .before .before .before .before .before .before)
+taken c =
+    let a = c .before .before .before .before .before .before .args in
+    both (Bool·beq (a .first) (row (c .before .before .before .before .before .before) .first)) (chosen? (choiceOf (a .choice))) .1
+    (of-true (sym (c .before .is-of .ensures) ∙ not-false (c .before .is-of .result) (c .if1 .left)), of-true (c .before .before .before .before .before .before .pre .1))
+
+-- where it does it is sound, its allele lies where it is said to lie, and there is room for the reference up to its span and for its allele
 module _ (s : tie.Start) (t : Taken s) where
-  sound : Sound (s .args .reference .now) (s .args .text .now) (s .args .row)
-  sound = s .pre .sound t
+  sound : Sound (s .args .reference .now) (s .args .text .now) (row s)
+  sound = s .pre .2 .sound t
 
   fits : allele s .at + allele s .len ≤ length (pickList (allele s .text) (s .args .text .now) (s .args .reference .now))
-  fits = allele-fits (s .args .reference .now) (s .args .text .now) (s .args .row) (s .args .first) (copyOf (s .args .copy)) (choiceOf (s .args .choice)) t sound
+  fits = allele-fits (s .args .reference .now) (s .args .text .now) (row s) (choiceOf (s .args .choice)) (s .args .first) (copyOf (s .args .copy)) t sound
 
-  room : s .args .built .len + (length (part (s .args .reference .now) (s .args .built .at) (s .args .row .start)) + allele s .len) ≤ length (s .args .out .now)
+  room : s .args .built .len + (length (part (s .args .reference .now) (s .args .built .at) (row s .start)) + allele s .len) ≤ length (s .args .out .now)
   room =
       omega (
         arith,
-        s .pre .room,
-        added-length (s .args .reference .now) (s .args .text .now) (s .args .row) (s .args .first) (copyOf (s .args .copy)) (choiceOf (s .args .choice)) t sound (s .args .built .at),
+        s .pre .2 .room,
+        row-length (s .args .reference .now) (s .args .text .now) (row s) (choiceOf (s .args .choice)) (s .args .first) (copyOf (s .args .copy)) t sound (s .args .built .at),
       )
 
 is-of-requires : tie.Need-is-of-requires
@@ -60,60 +59,78 @@ is-of-requires c κs = search needs
 
 returns : tie.Need-returns
 returns c =
+    let a = c .before .before .before .before .before .before .args in
     let e = not-true (c .before .is-of .result) (c .if1 .taken) in
-    added-none _ _ _ _ _ _ _ (rw (sym (c .before .is-of .ensures) ∙ e))
+    row-none (a .reference .now) (a .text .now) (row (c .before .before .before .before .before .before)) (choiceOf (a .choice)) (a .first) (copyOf (a .copy)) (a .built) (a .out .now)
+    (rw (sym (c .before .is-of .ensures) ∙ e))
 
-is-chosen-requires : tie.Need-is-chosen-requires
-is-chosen-requires c κs = search needs
+mul-start : tie.Need-mul-start
+mul-start c = search needs
 
-returns-2 : tie.Need-returns-2
-returns-2 c =
-    let e = not-true (c .before .is-chosen .result) (c .if2 .taken) in
-    added-none _ _ _ _ _ _ _ (rw (sym (c .before .is-chosen .ensures) ∙ e) (and-false (Bool·beq (c .before .before .before .before .before .before .before .args .first) (c .before .before .before .before .before .before .before .args .row .first))))
+add-start : tie.Need-add-start
+add-start c = search needs
 
-sub-put-bases : tie.Need-sub-put-bases
-sub-put-bases c = c .before .before .before .before .before .before .before .pre .order (taken c)
+mul-start-2 : tie.Need-mul-start-2
+mul-start-2 c = search needs
 
-part-put-bases-start : tie.Need-part-put-bases-start
-part-put-bases-start c = c .before .before .before .before .before .before .before .pre .order (taken c)
+shared-slice-read-start : tie.Need-shared-slice-read-start
+shared-slice-read-start c = search needs
 
-part-put-bases-end : tie.Need-part-put-bases-end
-part-put-bases-end c = omega (arith, sound (c .before .before .before .before .before .before .before) (taken c) .span)
+sub-put-bytes : tie.Need-sub-put-bytes
+sub-put-bytes c = c .before .before .before .before .before .before .before .pre .2 .order (taken (c .before))
 
-put-bases-requires : tie.Need-put-bases-requires
-put-bases-requires c κs = omega (arith, room (c .before .before .before .before .before .before .before .before .before) (taken (c .before .before)))
+part-put-bytes-start : tie.Need-part-put-bytes-start
+part-put-bytes-start c = c .before .before .before .before .before .before .before .pre .2 .order (taken (c .before))
+
+part-put-bytes-end : tie.Need-part-put-bytes-end
+part-put-bytes-end c = omega (arith, sound (c .before .before .before .before .before .before .before) (taken (c .before)) .span)
+
+put-bytes-requires : tie.Need-put-bytes-requires
+put-bytes-requires c κs = omega (arith, room (c .before .before .before .before .before .before .before .before .before) (taken (c .before .before .before)))
 
 allele-of-requires : tie.Need-allele-of-requires
-allele-of-requires c κs =
-    let a = c .before .before .before .before .before .before .before .before .before .before .before .before .args in
-    is-true (chosen? (choiceOf (a .choice))) (both (Bool·beq (a .first) (a .row .first)) (chosen? (choiceOf (a .choice))) .0 (taken (c .before .before .before .before .before)) .1)
+allele-of-requires c κs = search needs
 
 put-allele-requires : tie.Need-put-allele-requires
 put-allele-requires c κs =
     let a = c .before .before .before .before .before .before .before .before .before .before .before .before .before .before .args in
-    let s = part (a .reference .now) (a .built .at) (a .row .start) in
-    let r = room (c .before .before .before .before .before .before .before .before .before .before .before .before .before .before) (taken (c .before .before .before .before .before .before .before)) in
-    let n = bases-length s in
-    let l = ap length (c .before .before .before .before .put-bases .ensures .1) ∙ length-paste (a .out .now) (a .built .len) (basesOf s) (length s) (omega arith) (omega arith) in
-    rw (c .before .allele-of .ensures) (fits (c .before .before .before .before .before .before .before .before .before .before .before .before .before .before) (taken (c .before .before .before .before .before .before .before)), omega (arith, c .before .before .before .before .put-bases .ensures .0))
+    let t = taken (c .before .before .before .before .before .before .before .before) in
+    let s = part (a .reference .now) (a .built .at) (row (c .before .before .before .before .before .before .before .before .before .before .before .before .before .before) .start) in
+    let r = room (c .before .before .before .before .before .before .before .before .before .before .before .before .before .before) t in
+    let l = ap length (c .before .before .before .before .put-bytes .ensures .1) ∙ put-length (a .out .now) (a .built .len) (omega arith) s (omega arith) in
+    rw (c .before .allele-of .ensures) (fits (c .before .before .before .before .before .before .before .before .before .before .before .before .before .before) t, omega (arith, c .before .before .before .before .put-bytes .ensures .0))
+
+mul-t21 : tie.Need-mul-t21
+mul-t21 c = search needs
 
 add-t17 : tie.Need-add-t17
-add-t17 c = omega (arith, sound (c .before .before .before .before .before .before .before .before .before .before .before .before .before .before .before .before .before .before) (taken (c .before .before .before .before .before .before .before .before .before .before .before)) .span)
+add-t17 c = search needs
+
+mul-t19 : tie.Need-mul-t19
+mul-t19 c = search needs
+
+shared-slice-read-t18 : tie.Need-shared-slice-read-t18
+shared-slice-read-t18 c = search needs
+
+add-t30 : tie.Need-add-t30
+add-t30 c = omega (arith, sound (c .before .before .before .before .before .before .before .before .before .before .before .before .before .before .before .before .before .before) (taken (c .before .before .before .before .before .before .before .before .before .before .before .before)) .span)
 
 same-length : tie.Need-same-length
 same-length c = search needs
 
-returns-3 : tie.Need-returns-3
-returns-3 c =
+returns-2 : tie.Need-returns-2
+returns-2 c =
     let a = c .before .before .before .before .before .before .before .before .before .before .before .before .before .before .before .before .before .before .args in
-    let t = taken (c .before .before .before .before .before .before .before .before .before .before .before) in
+    let t = taken (c .before .before .before .before .before .before .before .before .before .before .before .before) in
+    let s = sound (c .before .before .before .before .before .before .before .before .before .before .before .before .before .before .before .before .before .before) t in
     let r = room (c .before .before .before .before .before .before .before .before .before .before .before .before .before .before .before .before .before .before) t in
-    let p = c .before .before .before .before .before .before .before .before .put-bases in
+    let p = c .before .before .before .before .before .before .before .before .put-bytes in
     let q = c .before .before .before .put-allele in
-    let e = c .before .before .before .before .before .allele-of .ensures in
-    added-some (a .reference .now) (a .text .now) (a .row) (a .first) (copyOf (a .copy)) (choiceOf (a .choice)) t (sound (c .before .before .before .before .before .before .before .before .before .before .before .before .before .before .before .before .before .before) t)
-    (a .built) _ (p .result) (a .out .now) (p .last .1 .0) (q .last .1 .1 .1 .0) (omega arith)
-    (p .ensures .0) (p .ensures .1) refl (rw (← e) (q .ensures .0)) (rw (← e) (q .ensures .1))
+    let e = c .before .before .before .before .before .allele-of .ensures in (
+      row-built (a .reference .now) (a .text .now) (row (c .before .before .before .before .before .before .before .before .before .before .before .before .before .before .before .before .before .before)) (choiceOf (a .choice)) (a .first) (copyOf (a .copy)) t s (a .built) (q .result) (omega (arith, p .ensures .0, rw e at (q .ensures .0))),
+      rw e at (q .ensures .1)
+          ∙ rw (p .ensures .0, p .ensures .1) (row-some (a .reference .now) (a .text .now) (row (c .before .before .before .before .before .before .before .before .before .before .before .before .before .before .before .before .before .before)) (choiceOf (a .choice)) (a .first) (copyOf (a .copy)) t s (a .built) (a .out .now) (omega arith)),
+    )
 
 pub add-row-spec : {M : Type 1} → statement M
 add-row-spec =
@@ -121,14 +138,20 @@ add-row-spec =
     (tie.spec
     is-of-requires
     returns
-    is-chosen-requires
-    returns-2
-    sub-put-bases
-    part-put-bases-start
-    part-put-bases-end
-    put-bases-requires
+    mul-start
+    add-start
+    mul-start-2
+    shared-slice-read-start
+    sub-put-bytes
+    part-put-bytes-start
+    part-put-bytes-end
+    put-bytes-requires
     allele-of-requires
     put-allele-requires
+    mul-t21
     add-t17
+    mul-t19
+    shared-slice-read-t18
+    add-t30
     same-length
-    returns-3)
+    returns-2)

@@ -15,21 +15,21 @@ add-end c =
     let h : a .at + a .len ≤ length s = rw (c .before .if1 .taken) at (c .before .before .before .before .before .pre .0) in
     omega arith
 
-sub-put-bases : tie.Need-sub-put-bases
-sub-put-bases c = search needs
+sub-put-bytes : tie.Need-sub-put-bytes
+sub-put-bytes c = search needs
 
-part-put-bases-start : tie.Need-part-put-bases-start
-part-put-bases-start c = search needs
+part-put-bytes-start : tie.Need-part-put-bytes-start
+part-put-bytes-start c = search needs
 
-part-put-bases-end : tie.Need-part-put-bases-end
-part-put-bases-end c =
+part-put-bytes-end : tie.Need-part-put-bytes-end
+part-put-bytes-end c =
     let a = c .before .before .before .before .before .args .allele in
     let s = c .before .before .before .before .before .args .text .now in
     let h : a .at + a .len ≤ length s = rw (c .before .if1 .taken) at (c .before .before .before .before .before .pre .0) in
     omega arith
 
-put-bases-requires : tie.Need-put-bases-requires
-put-bases-requires c κs = search needs
+put-bytes-requires : tie.Need-put-bytes-requires
+put-bytes-requires c κs = search needs
 
 same-length : tie.Need-same-length
 same-length c = search needs
@@ -41,7 +41,7 @@ returns c =
     let h : a .at + a .len ≤ length s = rw (c .before .before .before .before .before .before .if1 .taken) at (c .before .before .before .before .before .before .before .before .before .before .pre .0) in
     let n : a .at + a .len - a .at ≡ a .len = omega arith in
     let l : length (take (a .len) (drop (a .at) s)) ≡ a .len = length-take-le (a .len) (drop (a .at) s) (rw length-drop (omega arith)) in
-    (c .before .before .put-bases .ensures .0 ∙ rw (n, l), c .before .before .put-bases .ensures .1 ∙ rw (n, l, c .before .before .before .before .before .before .if1 .taken))
+    (c .before .before .put-bytes .ensures .0 ∙ rw (n, l), c .before .before .put-bytes .ensures .1 ∙ rw (n, c .before .before .before .before .before .before .if1 .taken))
 
 add-end-2 : tie.Need-add-end-2
 add-end-2 c =
@@ -50,21 +50,21 @@ add-end-2 c =
     let h : a .at + a .len ≤ length s = rw (c .before .if1 .left) at (c .before .before .before .before .before .pre .0) in
     omega arith
 
-sub-put-bases-2 : tie.Need-sub-put-bases-2
-sub-put-bases-2 c = search needs
+sub-put-bytes-2 : tie.Need-sub-put-bytes-2
+sub-put-bytes-2 c = search needs
 
-part-put-bases-start-2 : tie.Need-part-put-bases-start-2
-part-put-bases-start-2 c = search needs
+part-put-bytes-start-2 : tie.Need-part-put-bytes-start-2
+part-put-bytes-start-2 c = search needs
 
-part-put-bases-end-2 : tie.Need-part-put-bases-end-2
-part-put-bases-end-2 c =
+part-put-bytes-end-2 : tie.Need-part-put-bytes-end-2
+part-put-bytes-end-2 c =
     let a = c .before .before .before .before .before .args .allele in
     let s = c .before .before .before .before .before .args .reference .now in
     let h : a .at + a .len ≤ length s = rw (c .before .if1 .left) at (c .before .before .before .before .before .pre .0) in
     omega arith
 
-put-bases-requires-2 : tie.Need-put-bases-requires-2
-put-bases-requires-2 c κs = search needs
+put-bytes-requires-2 : tie.Need-put-bytes-requires-2
+put-bytes-requires-2 c κs = search needs
 
 same-length-2 : tie.Need-same-length-2
 same-length-2 c = search needs
@@ -76,23 +76,23 @@ returns-2 c =
     let h : a .at + a .len ≤ length s = rw (c .before .before .before .before .before .before .if1 .left) at (c .before .before .before .before .before .before .before .before .before .before .pre .0) in
     let n : a .at + a .len - a .at ≡ a .len = omega arith in
     let l : length (take (a .len) (drop (a .at) s)) ≡ a .len = length-take-le (a .len) (drop (a .at) s) (rw length-drop (omega arith)) in
-    (c .before .before .put-bases2 .ensures .0 ∙ rw (n, l), c .before .before .put-bases2 .ensures .1 ∙ rw (n, l, c .before .before .before .before .before .before .if1 .left))
+    (c .before .before .put-bytes2 .ensures .0 ∙ rw (n, l), c .before .before .put-bytes2 .ensures .1 ∙ rw (n, c .before .before .before .before .before .before .if1 .left))
 
 pub put-allele-spec : {M : Type 1} → statement M
 put-allele-spec =
     tie.close
     (tie.spec
     add-end
-    sub-put-bases
-    part-put-bases-start
-    part-put-bases-end
-    put-bases-requires
+    sub-put-bytes
+    part-put-bytes-start
+    part-put-bytes-end
+    put-bytes-requires
     same-length
     returns
     add-end-2
-    sub-put-bases-2
-    part-put-bases-start-2
-    part-put-bases-end-2
-    put-bases-requires-2
+    sub-put-bytes-2
+    part-put-bytes-start-2
+    part-put-bytes-end-2
+    put-bytes-requires-2
     same-length-2
     returns-2)
