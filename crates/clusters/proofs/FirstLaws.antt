@@ -1,6 +1,7 @@
 -- Laws of the first cluster of a plan, and of the plan's records.
 --     first-none, first-cut, first-more      how many items more the current cluster has
 --     first-plan                             how many items the first cluster has
+--     first-take                             it is that many of the first items
 --     rest-step, plan-step                   behind the first cluster the plan goes on as if it began there
 --     plan-some                              no cluster is empty
 --     Consecutive, records-consecutive       each record's first entry is the one behind the cluster before, the first record's is i
@@ -13,7 +14,7 @@ use mathlib.Core.Path.{_≡_, refl, sym, ap}
 use Prim.Native.Nat.{ℕ, suc, _+_, _≤_}
 use native.Mathlib.Numerals.{add-one}
 use native.Mathlib.Omega.{arith}
-use lib.ListN.{length, drop, length-append}
+use lib.ListN.{length, take, drop, length-append}
 use Rattle.donors.specs.Apart.{All}
 use Rattle.donors.specs.Rules.{Rules}
 use Rattle.matching.specs.Cut.{join}
@@ -49,6 +50,20 @@ module _ {X C H : Type 0} (𝓡 : Rules X C H) (R : List ℕ) where
   pub first-plan : (x : X) (xs : List X) → length (firstOf (plan 𝓡 R (x ∷ xs))) ≡ left (begin (sizeOf 𝓡 x)) xs + 1
   unfolding plan
   first-plan x xs = rw (first-onto x (rest 𝓡 R (begin (sizeOf 𝓡 x)) xs)) (sym (add-one (left (begin (sizeOf 𝓡 x)) xs)))
+
+  first-rest : (c : Current) (xs : List X) → firstOf (rest 𝓡 R c xs) ≡ take (left c xs) xs
+  first-rest c [] = rw (rest-none 𝓡 R c)
+  first-rest c (x ∷ xs) = go (cut? R c (𝓡 .start x)) refl (first-rest (more c (sizeOf 𝓡 x)) xs)
+    where
+      go : (t : Bool) → cut? R c (𝓡 .start x) ≡ t → firstOf (rest 𝓡 R (more c (sizeOf 𝓡 x)) xs) ≡ take (left (more c (sizeOf 𝓡 x)) xs) xs
+          → firstOf (rest 𝓡 R c (x ∷ xs)) ≡ take (left c (x ∷ xs)) (x ∷ xs)
+      go true e i = rw (rest-cut 𝓡 R c x xs e)
+      go false e i = rw (rest-more 𝓡 R c x xs e, first-onto x (rest 𝓡 R (more c (sizeOf 𝓡 x)) xs)) (ap (λ (ys : List X). x ∷ ys) i)
+
+  pub first-take : (xs : List X) → firstOf (plan 𝓡 R xs) ≡ take (length (firstOf (plan 𝓡 R xs))) xs
+  unfolding plan
+  first-take [] = refl
+  first-take (x ∷ xs) = rw (first-onto x (rest 𝓡 R (begin (sizeOf 𝓡 x)) xs)) (ap (λ (ys : List X). x ∷ ys) (first-rest (begin (sizeOf 𝓡 x)) xs))
 
   rest-step : (c : Current) (xs : List X) → rest 𝓡 R c xs ≡ firstOf (rest 𝓡 R c xs) ∷ plan 𝓡 R (drop (left c xs) xs)
   unfolding plan

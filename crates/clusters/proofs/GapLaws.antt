@@ -13,15 +13,15 @@ use mathlib.Core.Bool.{Bool, true, false, Bool·beq, not, _&&_}
 use mathlib.Core.List.{List, [], _∷_, _++_}
 use mathlib.Core.Logic.{_↔_, _⊎_, inl, inr, ⊎-elim}
 use mathlib.Core.Path.{_≡_, refl, sym, ap, _∙_}
-use Prim.Native.Nat.{ℕ, zero, suc, _+_, _-_, _≤_, _<_, max}
+use Prim.Native.Nat.{ℕ, _+_, _-_, _≤_, _<_, max}
 use native.Mathlib.Decide.{ℕ-discrete}
 use native.Mathlib.Omega.{arith}
 use borrow.Author.Tests.{le-leb, lt-leb, lt-ltb, eq-eqb}
 use lib.Dec.{T, T-not, not-T, eqb, leb, ltb, leb→le, ltb→lt, eqb→eq}
-use lib.ListN.{length, take, drop}
-use Rattle.bases.specs.Letter.{letterOf, basesOf}
+use lib.ListN.{length}
+use Rattle.bases.specs.Letter.{basesOf}
 use Rattle.bases.specs.Period.{Period, NoPeriod, anyPeriod?}
-use Rattle.bases.proofs.LetterLaws.{bases-length, bases-drop}
+use Rattle.bases.proofs.LetterLaws.{bases-length, bases-part}
 use Rattle.bases.proofs.PeriodLaws.{no-period-iff, no-period-long}
 use Rattle.bases.proofs.TestLaws.{of-true, of-false, is-true, is-false, both, either}
 use Rattle.donors.specs.Donor.{part}
@@ -97,16 +97,11 @@ module _ (R : List ℕ) (c : Current) (p : ℕ) where
       → T (cut? R c p)
   source-cut h k long none = gap-cut h k (λ q a d. none q a (omega arith))
 
-bases-take : (n : ℕ) (bs : List ℕ) → basesOf (take n bs) ≡ take n (basesOf bs)
-bases-take zero bs = refl
-bases-take (suc n) [] = refl
-bases-take (suc n) (b ∷ bs) = ap (λ (l : List ℕ). letterOf b ∷ l) (bases-take n bs)
-
 -- The same of bytes, as the code asks it.
 pub cut-bases : (bytes : List ℕ) (c : Current) (p : ℕ) → p ≤ length bytes → c .b ≤ p
     → cut? (basesOf bytes) c p ≡ not (anyPeriod? (reachOf c) (basesOf (part bytes (c .b) p)))
 cut-bases bytes c p h k =
-    let e : part (basesOf bytes) (c .b) p ≡ basesOf (part bytes (c .b) p) = sym (bases-take (p - c .b) (drop (c .b) bytes) ∙ ap (take (p - c .b)) (bases-drop (c .b) bytes)) in
+    let e : part (basesOf bytes) (c .b) p ≡ basesOf (part bytes (c .b) p) = sym (bases-part bytes (c .b) (p - c .b)) in
     cut-test (basesOf bytes) c p (rw (bases-length bytes) h) k ∙ ap (λ (y : List ℕ). not (anyPeriod? (reachOf c) y)) e
 
 module _ (c : Current) (z : Size) (m : ℕ) (e : m ≡ max (c .b) (z .end)) where

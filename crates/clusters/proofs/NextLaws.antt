@@ -1,6 +1,7 @@
 -- A walk from cluster to cluster over two accepted texts.
 --     accepted-ready                what the walk leans on is so at the first records of accepted texts
 --     left-le, count-le, count-some     a cluster has no more entries than are left, and at least one
+--     found-left                    behind it so many fewer are left
 --     ready-passed, ready-found     it stays so behind the next entries, and behind the next cluster
 --     next-done, next-plan          where no record is left there is no cluster; else there is the next one, and those behind it
 --     records-done, records-next    the same of the plan's records
@@ -8,9 +9,9 @@
 use mathlib.Core.Bool.{Bool, true, false}
 use mathlib.Core.List.{List, [], _∷_, map}
 use mathlib.Core.Path.{_≡_, refl, sym, ap, _∙_}
-use Prim.Native.Nat.{ℕ, zero, suc, _+_, _≤_}
+use Prim.Native.Nat.{ℕ, zero, suc, _+_, _-_, _≤_}
 use native.Mathlib.Omega.{arith}
-use lib.ListN.{length, drop}
+use lib.ListN.{length, drop, length-drop}
 use Rattle.bases.specs.Letter.{basesOf}
 use Rattle.donors.specs.Choice.{Variant, cardRules}
 use Rattle.donors.specs.Rules.{Rules}
@@ -111,6 +112,11 @@ module _ (reference first second : List ℕ) where
 
       pub ready-found : Ready reference first second h → Ready reference first second (foundAt reference first second h .heads)
       ready-found r = ready-passed (firstCount reference first second h) h r count-le
+
+      pub found-left : length (itemsFrom first second (foundAt reference first second h .heads)) ≡ length (itemsFrom first second h) - firstCount reference first second h
+      found-left =
+          ap length (passed-items first second (firstCount reference first second h) h count-le)
+          ∙ length-drop (firstCount reference first second h) (itemsFrom first second h)
 
       variants-passed : variantsFrom reference first second (foundAt reference first second h .heads) ≡ drop (firstCount reference first second h) (variantsFrom reference first second h)
       variants-passed =

@@ -76,14 +76,16 @@ module _ (reference t : List ℕ) (a : ℕ) (inside : a < length t) (line : Reco
   allele-long (suc (suc k)) h =
       part-size t (entryOf (lineAt t a) a .second .at) (entryOf (lineAt t a) a .second .len) (second-within t a (omega arith) (line .ten) (two k h))
 
-  allele-short : (k : ℕ) → k ≤ altCount (field 4 (lineAt t a)) → lenOf (entryOf (lineAt t a) a) k ≤ longestAllele
-  allele-short zero h = allele-size (field 3 (lineAt t a)) (line .ref) .1
-  allele-short (suc zero) h =
+  allele-sized : (k : ℕ) → k ≤ altCount (field 4 (lineAt t a)) → (1 ≤ lenOf (entryOf (lineAt t a) a) k) × (lenOf (entryOf (lineAt t a) a) k ≤ longestAllele)
+  allele-sized zero h = allele-size (field 3 (lineAt t a)) (line .ref)
+  allele-sized (suc zero) h =
       let f = field 4 (lineAt t a) in
-      omega (arith, allele-size (firstAlt f) (first-allele (field 3 (lineAt t a)) f (line .alts)) .1, length-take-le (until COMMA f) f (until-le COMMA f))
-  allele-short (suc (suc k)) h =
+      let z = allele-size (firstAlt f) (first-allele (field 3 (lineAt t a)) f (line .alts)) in
+      omega (arith, length-take-le (until COMMA f) f (until-le COMMA f))
+  allele-sized (suc (suc k)) h =
       let f = field 4 (lineAt t a) in
-      omega (arith, allele-size (secondAlt f) (second-allele (field 3 (lineAt t a)) f (line .alts) (two k h)) .1, length-drop (until COMMA f + 1) f)
+      let z = allele-size (secondAlt f) (second-allele (field 3 (lineAt t a)) f (line .alts) (two k h)) in
+      omega (arith, length-drop (until COMMA f + 1) f)
 
   pub ref-allele : alleleOf reference t (entryOf (lineAt t a) a) 0 ≡ basesOf (field 3 (lineAt t a))
   ref-allele = sym (line .same)
@@ -105,8 +107,10 @@ module _ (reference t : List ℕ) (a : ℕ) (inside : a < length t) (line : Reco
         short = allele-size (field 3 r) (line .ref) .1;
         long0 = allele-long (copy0 (genotypeOn r)) (c .0);
         long1 = allele-long (copy1 (genotypeOn r)) (c .1);
-        short0 = allele-short (copy0 (genotypeOn r)) (c .0);
-        short1 = allele-short (copy1 (genotypeOn r)) (c .1);
+        some0 = allele-sized (copy0 (genotypeOn r)) (c .0) .0;
+        some1 = allele-sized (copy1 (genotypeOn r)) (c .1) .0;
+        short0 = allele-sized (copy0 (genotypeOn r)) (c .0) .1;
+        short1 = allele-sized (copy1 (genotypeOn r)) (c .1) .1;
       }
 
 module _ (reference name t : List ℕ) where

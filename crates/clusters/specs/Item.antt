@@ -65,7 +65,7 @@ itemSize i =
     }
 
 -- What is so of each entry of an accepted list, as far as a walk leans on it: there is a POS, REF is not empty and lies inside the reference, and the
--- numbers say how long the copies' alleles are, none of which is longer than an allele may be.
+-- numbers say how long the copies' alleles are, none of which is empty or longer than an allele may be.
 pub record Sound (reference text : List ℕ) (e : Entry) : Type 0 where
   pub pos : 1 ≤ e .pos .0
   pub some : 1 ≤ e .reference .len
@@ -73,5 +73,7 @@ pub record Sound (reference text : List ℕ) (e : Entry) : Type 0 where
   pub short : e .reference .len ≤ longestAllele
   pub long0 : length (alleleOf reference text e (e .copy0)) ≡ lenOf e (e .copy0)
   pub long1 : length (alleleOf reference text e (e .copy1)) ≡ lenOf e (e .copy1)
+  pub some0 : 1 ≤ lenOf e (e .copy0)
+  pub some1 : 1 ≤ lenOf e (e .copy1)
   pub short0 : lenOf e (e .copy0) ≤ longestAllele
   pub short1 : lenOf e (e .copy1) ≤ longestAllele

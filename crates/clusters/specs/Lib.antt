@@ -2,6 +2,10 @@ pub mod Gap
 pub mod Heads
 pub mod Item
 pub mod Lent
+pub mod Markable
 pub mod Marks
 pub mod Merged
 pub mod Plan
+pub mod Row
+pub mod Skip
+pub mod Walk

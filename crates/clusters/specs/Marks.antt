@@ -13,7 +13,9 @@ use Rattle.matching.specs.Answer.{byteOf}
 use Rattle.matching.specs.Best.{score}
 use Rattle.matching.specs.Card.{cardScoring, cardBest}
 use Rattle.matching.specs.Cut.{join}
+use Rattle.clusters.specs.declared.heads.Heads.{Heads}
 use Rattle.clusters.specs.declared.mark.Marked.{Marked}
+use Rattle.clusters.specs.Heads.{variantsFrom}
 use Rattle.clusters.specs.Merged.{mergedVariants}
 use Rattle.clusters.specs.Plan.{cardPlan}
 
@@ -44,10 +46,15 @@ abbrev pub pickMarked : Bool → Marked → Marked → Marked
 pickMarked true a b = a
 pickMarked false a b = b
 
--- The clusters of two lists; the first entry of cluster k; the cluster itself.
+-- The clusters of two lists.
 abbrev pub clustersOf : List ℕ → List ℕ → List ℕ → List (List Variant)
 clustersOf reference first second = cardPlan reference (mergedVariants reference first second)
 
+-- Those from the cursors on.
+abbrev pub clustersFrom : List ℕ → List ℕ → List ℕ → Heads → List (List Variant)
+clustersFrom reference first second h = cardPlan reference (variantsFrom reference first second h)
+
+-- The first entry of cluster k; the cluster itself.
 abbrev pub firstEntry : List (List Variant) → ℕ → ℕ
 firstEntry cs k = length (join (take k cs))
 

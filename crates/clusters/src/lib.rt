@@ -1,4 +1,4 @@
-// Clusters: the entries of two lists in merged order, the gap rule, and the clusters that it cuts, in one walk over both texts.
+// Clusters: the entries of two lists in merged order, the gap rule, the clusters that it cuts, in one walk over both texts, and their marks.
 // The contracts cite specs/.
 pub mod cluster;
 pub mod gap;
@@ -6,3 +6,4 @@ pub mod heads;
 pub mod item;
 pub mod mark;
 pub mod plan;
+pub mod row;

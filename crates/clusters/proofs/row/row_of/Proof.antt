@@ -1,0 +1,21 @@
+-- `clusters::row::row_of` meets its contract. Assumes nothing.
+use mathlib.Core.Path.{ap}
+use borrow.Author.Needs.{needs}
+use Rattle.bases.specs.declared.place.Place.{Place}
+use Rattle.clusters.proofs.row.row_of.Statement.{statement}
+use Rattle.clusters.proofs.row.row_of.Tie as tie
+
+place-of-requires : tie.Need-place-of-requires
+place-of-requires c κs = search needs
+
+stand-of-requires : tie.Need-stand-of-requires
+stand-of-requires c κs = ap (λ (p : Place). p .0) (c .before .place-of .ensures)
+
+stand-of-requires-2 : tie.Need-stand-of-requires-2
+stand-of-requires-2 c κs = ap (λ (p : Place). p .0) (c .before .before .place-of .ensures)
+
+returns : tie.Need-returns
+returns c = cc (ap (λ (p : Place). p .0) (c .before .before .before .place-of .ensures))
+
+pub row-of-spec : {M : Type 1} → statement M
+row-of-spec = tie.close (tie.spec place-of-requires stand-of-requires stand-of-requires-2 returns)

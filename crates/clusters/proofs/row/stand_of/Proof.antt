@@ -1,0 +1,21 @@
+-- `clusters::row::stand_of` meets its contract: any number but 0 and 1 names the second ALT. Assumes nothing.
+use mathlib.Core.Path.{_≡_}
+use Prim.Native.Nat.{suc, _-_}
+use native.Mathlib.Omega.{arith}
+use Rattle.clusters.proofs.row.stand_of.Statement.{statement}
+use Rattle.clusters.proofs.row.stand_of.Tie as tie
+
+returns : tie.Need-returns
+returns c = cc
+
+returns-2 : tie.Need-returns-2
+returns-2 c = cc
+
+returns-3 : tie.Need-returns-3
+returns-3 c =
+    let k = c .before .before .before .args .k in
+    let e : k ≡ suc (suc (k - 2)) = omega arith in
+    rw e
+
+pub stand-of-spec : {M : Type 1} → statement M
+stand-of-spec = tie.close (tie.spec returns returns-2 returns-3)

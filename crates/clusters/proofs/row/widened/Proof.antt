@@ -1,0 +1,23 @@
+-- `clusters::row::widened` meets its contract. Assumes nothing.
+use borrow.Author.Needs.{needs}
+use Rattle.clusters.proofs.row.widened.Statement.{statement}
+use Rattle.clusters.proofs.row.widened.Tie as tie
+
+-- src/row.rt:126:15
+smaller-requires : tie.Need-smaller-requires
+smaller-requires c κs = search needs
+
+-- src/row.rt:127:32
+add-larger : tie.Need-add-larger
+add-larger c = search needs
+
+-- src/row.rt:127:13
+larger-requires : tie.Need-larger-requires
+larger-requires c κs = search needs
+
+-- src/row.rt:121:1
+returns : tie.Need-returns
+returns c = cc
+
+pub widened-spec : {M : Type 1} → statement M
+widened-spec = tie.close (tie.spec smaller-requires add-larger larger-requires returns)
