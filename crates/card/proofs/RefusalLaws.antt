@@ -3,6 +3,7 @@
 --     NoneHolds, First, Numbered       no row holds; a refusal is the first whose row holds; a row that holds is not numbered 0
 --     first-holds, first-not, first-past   the first refusal, by the check in front; checks of which none holds may stand in front
 --     first-found, first-first, first-none, none-holds   what the first refusal says of the checks, and what they say of it
+--     first-keeps, first-goes          checks behind others: where one of those holds they are not reached, else they decide
 --     refused-iff, answered-iff        a refusal is given exactly if it is the first whose row holds; three zeros exactly if no row holds
 -- Assumes nothing.
 use mathlib.Core.Bool.{Bool, true, false}
@@ -59,6 +60,19 @@ none-holds (c ∷ cs) n e = go (c .holds) refl (none-holds cs (n .1)) e
     go : (t : Bool) → c .holds ≡ t → (firstRefusal cs .number ≡ 0 → NoneHolds cs) → pickRefusal t (c .refused) (firstRefusal cs) .number ≡ 0 → NoneHolds (c ∷ cs)
     go true h f e = absurd (n .0 (of-true h) e)
     go false h f e = (h, f e)
+
+pub first-keeps : (cs ds : List Check) → firstRefusal cs .number ≢ 0 → firstRefusal (cs ++ ds) ≡ firstRefusal cs
+unfolding firstRefusal
+first-keeps [] ds n = absurd (n refl)
+first-keeps (c ∷ cs) ds n = go (c .holds) (first-keeps cs ds) n
+  where
+    go : (t : Bool) → (firstRefusal cs .number ≢ 0 → firstRefusal (cs ++ ds) ≡ firstRefusal cs) → pickRefusal t (c .refused) (firstRefusal cs) .number ≢ 0
+        → pickRefusal t (c .refused) (firstRefusal (cs ++ ds)) ≡ pickRefusal t (c .refused) (firstRefusal cs)
+    go true f n = refl
+    go false f n = f n
+
+pub first-goes : (cs ds : List Check) → Numbered cs → firstRefusal cs .number ≡ 0 → firstRefusal (cs ++ ds) ≡ firstRefusal ds
+first-goes cs ds n e = first-past cs ds (none-holds cs n e)
 
 pub first-found : (cs : List Check) (r : Refusal) → r .number ≢ 0 → firstRefusal cs ≡ r → First r cs
 unfolding firstRefusal

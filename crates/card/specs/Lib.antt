@@ -1,2 +1,9 @@
+pub mod All
 pub mod Allele
+pub mod Answer
+pub mod Demand
+pub mod Examples
+pub mod Mark
+pub mod Normal
+pub mod Plan
 pub mod Refusal

@@ -1,7 +1,7 @@
 -- What is turned away: the three numbers of a refusal, and the first of a call's refusals in document 01's order: 1; 2; list 1; list 2; 17; 16; 18.
 -- Assumes nothing: these are definitions.
 use mathlib.Core.Bool.{Bool, true, false, not}
-use mathlib.Core.List.{List, [], _∷_}
+use mathlib.Core.List.{List, [], _∷_, _++_}
 use Prim.Native.Nat.{ℕ}
 use lib.Dec.{eqb}
 use Rattle.bases.specs.Reference.{isReference?}
@@ -41,3 +41,15 @@ abbrev pub listCheck : ℕ → List ℕ → List ℕ → List ℕ → Check
 listCheck j reference name text =
     check (not (eqb (judgeText reference name text .number) 0))
     (refusal (judgeText reference name text .number) j (judgeText reference name text .line))
+
+-- The least room that is lent for a plan, in clusters, and for marks, in bytes.
+abbrev pub leastRoom : ℕ
+leastRoom = 1024
+
+-- The rows of a call with one list: 1; 2, where lent room is too small; list 1.
+abbrev pub listChecks : List ℕ → List ℕ → List ℕ → Bool → List Check
+listChecks reference name first small = referenceCheck reference ∷ check small (refusal 2 0 0) ∷ listCheck 1 reference name first ∷ []
+
+-- The rows of a call with two: the same, then list 2.
+abbrev pub listsChecks : List ℕ → List ℕ → List ℕ → List ℕ → Bool → List Check
+listsChecks reference name first second small = listChecks reference name first small ++ (listCheck 2 reference name second ∷ [])
