@@ -84,6 +84,63 @@ typedef struct {
 card_answer card_allele(const uint8_t *reference, size_t reference_count, const uint8_t *name, size_t name_count,
                         const uint8_t *text, size_t text_count, size_t entry, size_t allele);
 
+/*
+ * Writes a list in normal form.
+ *
+ * reference, name, text   as for card_allele
+ * out                     room for the written text, at least as long as the text given
+ *
+ * Answered: value is how many bytes were written, from the first on; no other byte of out changes. Header lines come first, then
+ * the records by new POS, equal POS in the order read. Only POS, REF and ALT are replaced. What is written is accepted by every
+ * call, gives the same donors, and written again is itself.
+ * Refused: 1, 2, 3 to 15. No byte of out changes.
+ */
+card_answer card_normal(const uint8_t *reference, size_t reference_count, const uint8_t *name, size_t name_count,
+                        const uint8_t *text, size_t text_count, uint8_t *out, size_t out_count);
+
+/* A cluster: its first entry in merged order, from 0, and its number of entries. */
+typedef struct {
+    uint32_t first, count;
+} card_cluster;
+
+/* The room that every plan and every buffer of marks has to have: so many clusters, so many bytes. */
+enum { CARD_LEAST = 1024 };
+
+/* The value that says that a cluster is undecided. */
+#define CARD_UNDECIDED UINT32_MAX
+
+/*
+ * Cuts two lists into clusters.
+ *
+ * reference, name   as for card_allele
+ * first, second     list 1 and list 2
+ * plan              room for CARD_LEAST clusters or more
+ *
+ * Answered: value is the number of clusters. The plan's first records, one a cluster, are written; no other record changes.
+ * Refused: 1, 2, 3 to 15. No record changes.
+ */
+card_answer card_plan(const uint8_t *reference, size_t reference_count, const uint8_t *name, size_t name_count,
+                      const uint8_t *first, size_t first_count, const uint8_t *second, size_t second_count,
+                      card_cluster *plan, size_t plan_count);
+
+/*
+ * Marks the entries of one cluster.
+ *
+ * reference, name, first, second   as for card_plan
+ * plan       the plan of these lists, as card_plan writes it; what stands behind its clusters may be anything
+ * cluster    the cluster's number, from 0
+ * marks      CARD_LEAST bytes or more, one an entry in merged order: POS, then list 1 before list 2, then order in the list
+ *
+ * Answered: the marks of the cluster's entries are written, and no other byte of marks changes: '+' where the entry is chosen as
+ * written, '-' where it is chosen with its copies exchanged, '0' where it is left out. value is the cluster's score. A cluster of 13
+ * entries or more is undecided: each of its marks is '?', and value is CARD_UNDECIDED.
+ * Once each cluster has been answered, in whatever order, the marks are those of the best pair over the two whole lists.
+ * Refused: 1, 2, 3 to 15, 17, 16. No byte of marks changes.
+ */
+card_answer card_mark(const uint8_t *reference, size_t reference_count, const uint8_t *name, size_t name_count,
+                      const uint8_t *first, size_t first_count, const uint8_t *second, size_t second_count,
+                      const card_cluster *plan, size_t plan_count, size_t cluster, uint8_t *marks, size_t marks_count);
+
 #ifdef __cplusplus
 }
 #endif

@@ -18,8 +18,9 @@ use Rattle.card.specs.declared.allele.Shown.{Shown}
 use Rattle.card.specs.declared.refusal.Refusal.{Refusal}
 use Rattle.card.specs.Allele.{alleleRefusal, shown, pickList, bytesShown}
 use Rattle.card.proofs.AlleleLaws.{shown-refusal, shown-empty-iff}
-use Rattle.card_abi.specs.declared.answer.CardAnswer.{CardAnswer}
-use Rattle.card_abi.specs.Answer.{answer, refusedAnswer, alleleAnswer}
+use Rattle.card.specs.declared.answer.Answer.{Answer}
+use Rattle.card.specs.Answer.{answer, refusedAnswer}
+use Rattle.card_abi.specs.Answer.{alleleAnswer}
 
 module _ (s : Shown) where
   pub answer-refused : s .refusal .number ≢ 0 → alleleAnswer s ≡ refusedAnswer (s .refusal)
@@ -38,7 +39,7 @@ module _ (s : Shown) where
       go (no n) = rw (answer-refused n)
 
 module _ (reference name text : List ℕ) (i k : ℕ) where
-  abbrev answered : CardAnswer
+  abbrev answered : Answer
   answered = alleleAnswer (shown reference name text i k)
 
   pub allele-answer-number : answered .number ≡ alleleRefusal reference name text i k .number

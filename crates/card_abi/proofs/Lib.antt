@@ -1,2 +1,4 @@
 pub mod AnswerLaws
 pub mod Determines
+pub mod MarkDetermines
+pub mod PlanDetermines

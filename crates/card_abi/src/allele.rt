@@ -2,8 +2,9 @@
 ghost use mathlib.Core.Path.{_≡_};
 ghost use Rattle.card.specs.Allele.{shown};
 ghost use Rattle.card_abi.specs.Answer.{alleleAnswer};
-use crate::answer::CardAnswer;
 use card::allele::allele_shown;
+use card::answer::Answer;
+use card::answer::refuse;
 
 // Where allele k of entry i stands. Answered: number 0, list 0 for a part of the reference and 1 for a part of the text, line where that part starts
 // there, and value its length.
@@ -14,22 +15,17 @@ pub extern "C" fn card_allele(
     text: &[u8],
     entry: usize,
     allele: usize,
-) -> CardAnswer
+) -> Answer
     ensures { λ r. ⌜ r ≡ alleleAnswer (shown (now (reference .entry)) (now (name .entry)) (now (text .entry)) entry allele) ⌝ }
 {
     let s = allele_shown(reference, name, text, entry, allele);
     let refusal = s.refusal;
     if refusal.number != 0 {
-        return CardAnswer {
-            number: refusal.number,
-            list: refusal.list,
-            line: refusal.line,
-            value: 0,
-        };
+        return refuse(refusal.number, refusal.list, refusal.line);
     }
     let part = s.part;
     let list: u32 = if s.text { 1 } else { 0 };
-    CardAnswer {
+    Answer {
         number: 0,
         list,
         line: part.at as u32,

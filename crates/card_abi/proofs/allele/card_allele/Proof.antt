@@ -13,10 +13,13 @@ use Rattle.card_abi.proofs.allele.card_allele.Tie as tie
 allele-shown-requires : tie.Need-allele-shown-requires
 allele-shown-requires c κs = search needs
 
+refuse-requires : tie.Need-refuse-requires
+refuse-requires c κs = search needs
+
 returns : tie.Need-returns
 returns c =
-    let s = c .before .before .before .allele-shown .result in
-    sym (answer-refused s (c .if1 .taken)) ∙ ap alleleAnswer (c .before .before .before .allele-shown .ensures)
+    let s = c .before .before .before .before .allele-shown .result in
+    c .refuse .ensures ∙ sym (answer-refused s (c .before .if1 .taken)) ∙ ap alleleAnswer (c .before .before .before .before .allele-shown .ensures)
 
 cast-t12 : tie.Need-cast-t12
 cast-t12 c =
@@ -44,4 +47,4 @@ returns-2 c =
     rw (← c .before .before .before .before .before .before .before .allele-shown .ensures, answer-there s (c .before .before .before .before .if1 .left)) (⊎-elim (λ w. rw (w .1, w .0 .taken)) (λ w. rw (w .1, w .0 .left)) (c .before .before .if2 .came))
 
 pub card-allele-spec : {M : Type 1} → statement M
-card-allele-spec = tie.close (tie.spec allele-shown-requires returns cast-t12 cast-t13 returns-2)
+card-allele-spec = tie.close (tie.spec allele-shown-requires refuse-requires returns cast-t12 cast-t13 returns-2)
