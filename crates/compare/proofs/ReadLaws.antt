@@ -1,0 +1,75 @@
+-- Laws of a walk over the records of two lists.
+--     readable-moved, readable-passed     what the walk leans on stays so behind the next record, and behind the next n
+--     some-left                           where an entry is left, the walk is not done
+--     pos-le, next-pos                    a POS is at most the largest
+-- Assumes nothing.
+use mathlib.Core.Bool.{Bool, true, false, not, _&&_}
+use mathlib.Core.List.{List, [], _∷_}
+use mathlib.Core.Path.{_≡_, refl, ap}
+use Prim.Native.Nat.{ℕ, zero, suc, _≤_, _<_}
+use native.Mathlib.Omega.{arith}
+use lib.Dec.{eqb, leb, leb→le}
+use lib.ListN.{length, getD}
+use Rattle.bases.specs.Letter.{pick}
+use Rattle.bases.proofs.TestLaws.{both, of-true}
+use Rattle.clusters.specs.declared.heads.Heads.{Heads}
+use Rattle.clusters.specs.declared.item.Item.{Item}
+use Rattle.clusters.specs.Heads.{entriesAt, cursor, itemsFrom, done?, nextItem, moved, passed}
+use Rattle.clusters.specs.Item.{textOf}
+use Rattle.clusters.specs.Merged.{posOf, itemOf, itemsOf}
+use Rattle.clusters.proofs.HeadsLaws.{items-none, items-step}
+use Rattle.clusters.proofs.MergedLaws.{all-map, merged-all}
+use Rattle.donors.specs.Apart.{All}
+use Rattle.donors.specs.Rules.{list1, list2}
+use Rattle.vcf.specs.declared.entry.Entry.{Entry}
+use Rattle.vcf.specs.Entry.{entriesFrom}
+use Rattle.vcf.specs.Pos.{allDigits?, valueFrom, largestPos, isPos?, readPos}
+use Rattle.vcf.proofs.EntryLaws.{readable-next}
+use Rattle.compare.specs.Readable.{Readable}
+
+pub pos-le : (f : List ℕ) → readPos f ≤ largestPos
+unfolding isPos?
+pos-le f = go (isPos? f) refl
+  where
+    go : (t : Bool) → isPos? f ≡ t → pick t (valueFrom 0 f) 0 ≤ largestPos
+    go true e =
+        let s = both (allDigits? f) (not (eqb (getD f 0 48) 48) && leb (valueFrom 0 f) largestPos) .0 (of-true e) in
+        leb→le (valueFrom 0 f) largestPos (both (not (eqb (getD f 0 48) 48)) (leb (valueFrom 0 f) largestPos) .0 (s .1) .1)
+    go false e = omega arith
+
+entries-pos : (a : ℕ) (ls : List (List ℕ)) → All (λ (e : Entry). e .pos .0 ≤ largestPos) (entriesFrom a ls)
+unfolding entriesFrom
+entries-pos a [] = tt
+entries-pos a (l ∷ ls) = (pos-le _, entries-pos _ ls)
+
+module _ (first second : List ℕ) where
+  pub readable-moved : (h : Heads) → Readable first second h → (j : Bool) → cursor h j < length (textOf j first second) → Readable first second (moved first second h j)
+  readable-moved h r true k = record { readable1 = readable-next first (h .at1) k (r .readable1); readable2 = r .readable2 }
+  readable-moved h r false k = record { readable1 = r .readable1; readable2 = readable-next second (h .at2) k (r .readable2) }
+
+  pub some-left : (h : Heads) → 1 ≤ length (itemsFrom first second h) → done? first second h ≡ false
+  some-left h k = go (done? first second h) refl
+    where
+      go : (t : Bool) → done? first second h ≡ t → t ≡ false
+      go true e = absurd (omega (arith, ap length (items-none first second h e)))
+      go false e = refl
+
+  pub readable-passed : (n : ℕ) (h : Heads) → Readable first second h → n ≤ length (itemsFrom first second h) → Readable first second (passed first second n h)
+  unfolding passed
+  readable-passed zero h r k = r
+  readable-passed (suc n) h r k =
+      let s = items-step first second h (some-left h (omega arith)) in
+      let j = nextItem first second h .side in
+      readable-passed n (moved first second h j) (readable-moved h r j (s .inside)) (omega (arith, ap length (s .split)))
+
+  items-pos : (h : Heads) → All (λ (i : Item). posOf i ≤ largestPos) (itemsFrom first second h)
+  items-pos h =
+      merged-all posOf (λ (i : Item). posOf i ≤ largestPos) (itemsOf list1 (entriesAt first (h .at1))) (itemsOf list2 (entriesAt second (h .at2)))
+      (all-map (λ (i : Item). posOf i ≤ largestPos) (itemOf list1) (entriesAt first (h .at1)) (entries-pos _ _))
+      (all-map (λ (i : Item). posOf i ≤ largestPos) (itemOf list2) (entriesAt second (h .at2)) (entries-pos _ _))
+
+  pub next-pos : (h : Heads) → done? first second h ≡ false → posOf (nextItem first second h) ≤ largestPos
+  next-pos h e = go (items-step first second h e .split) (items-pos h)
+    where
+      go : {i : Item} {is : List Item} → itemsFrom first second h ≡ i ∷ is → All (λ (i : Item). posOf i ≤ largestPos) (itemsFrom first second h) → posOf i ≤ largestPos
+      go s u = (rw s at u) .0

@@ -1,0 +1,5 @@
+pub mod Compared
+pub mod Counts
+pub mod Makes
+pub mod Printed
+pub mod Readable

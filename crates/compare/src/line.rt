@@ -1,0 +1,72 @@
+// The lines that compare prints, written into lent room. Each function says where what it wrote ends, and leaves every other byte of the room as it was.
+ghost use mathlib.Core.Path.{_≡_};
+ghost use Prim.Native.Nat.{_+_, _≤_};
+ghost use lib.ListN.{length};
+ghost use Rattle.bases.specs.Put.{put};
+ghost use Rattle.compare.specs.Counts.{Few};
+ghost use Rattle.compare.specs.Printed.{largestNumber, heading, listNumber, entryLine, lineMost, totalLine, totalMost, refusedText, refusedMost};
+use crate::count::Count;
+use crate::field::put_field;
+use crate::field::put_fields;
+use bases::put::put_byte;
+use bases::put::put_bytes;
+use vcf::bytes::LF;
+use vcf::bytes::TAB;
+
+// Writes the heading at the start of the room.
+pub fn put_heading(out: &mut [u8]) -> usize
+    requires { ⌜ length heading ≤ length (now out) ⌝ }
+    ensures { λ r. ⌜ (r ≡ length heading) × (now (out .exit) ≡ put (now (out .entry)) 0 heading) ⌝ }
+{
+    put_bytes(b"list\tPOS\tcluster\tmark\n", out, 0)
+}
+
+// The number of a list (`side`: list 1).
+fn list_number(side: bool) -> usize
+    ensures { λ r. ⌜ r ≡ listNumber side ⌝ }
+{
+    if side { 1 } else { 2 }
+}
+
+// Writes the line of an entry: list, POS, cluster, mark.
+pub fn put_entry(
+    side: bool,
+    pos: usize,
+    cluster: usize,
+    mark: u8,
+    out: &mut [u8],
+    at: usize,
+) -> usize
+    requires { ⌜ (pos ≤ largestNumber) × (cluster ≤ largestNumber) × (at + lineMost ≤ length (now out)) ⌝ }
+    ensures { λ r. ⌜ (r ≡ at + length (entryLine side pos cluster mark)) × (now (out .exit) ≡ put (now (out .entry)) at (entryLine side pos cluster mark)) ⌝ }
+{
+    let a = put_fields(list_number(side), pos, cluster, TAB, out, at);
+    let b = put_byte(mark, out, a);
+    put_byte(LF, out, b)
+}
+
+// Writes the total line: the totals and the score.
+pub fn put_total(totals: Count, score: usize, out: &mut [u8], at: usize) -> usize
+    requires { ⌜ Few totals × (score ≤ largestNumber) × (at + totalMost ≤ length (now out)) ⌝ }
+    ensures { λ r. ⌜ (r ≡ at + length (totalLine totals score)) × (now (out .exit) ≡ put (now (out .entry)) at (totalLine totals score)) ⌝ }
+{
+    let a = put_bytes(b"total\t", out, at);
+    let b = put_fields(
+        totals.matched,
+        totals.unmatched,
+        totals.undecided,
+        TAB,
+        out,
+        a,
+    );
+    put_field(score, LF, out, b)
+}
+
+// Writes the text for a refusal at the start of the room.
+pub fn refused_text(number: usize, list: usize, line: usize, out: &mut [u8]) -> usize
+    requires { ⌜ (number ≤ largestNumber) × (list ≤ largestNumber) × (line ≤ largestNumber) × (refusedMost ≤ length (now out)) ⌝ }
+    ensures { λ r. ⌜ (r ≡ length (refusedText number list line)) × (now (out .exit) ≡ put (now (out .entry)) 0 (refusedText number list line)) ⌝ }
+{
+    let next = put_bytes(b"refused\t", out, 0);
+    put_fields(number, list, line, LF, out, next)
+}

@@ -1,0 +1,20 @@
+-- The files of compare and normalise. Document 01: reference.txt is bases, then one LF; the name is `chr1`.
+-- Assumes nothing: these are definitions.
+use mathlib.Core.Bool.{Bool, _&&_}
+use mathlib.Core.List.{List, [], _∷_}
+use Prim.Native.Nat.{ℕ, _-_}
+use lib.Dec.{eqb, ltb}
+use lib.ListN.{length, getD, take}
+use Rattle.vcf.specs.Bytes.{LF}
+
+-- chr1
+abbrev pub chromName : List ℕ
+chromName = 99 ∷ 104 ∷ 114 ∷ 49 ∷ []
+
+-- The file ends in LF.
+abbrev pub endsInLf? : List ℕ → Bool
+endsInLf? file = ltb 0 (length file) && eqb (getD file (length file - 1) 0) LF
+
+-- The file without its last byte.
+abbrev pub basesOfFile : List ℕ → List ℕ
+basesOfFile file = take (length file - 1) file

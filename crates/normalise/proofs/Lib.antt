@@ -1,0 +1,2 @@
+pub mod Determines
+pub mod NormalisedLaws
