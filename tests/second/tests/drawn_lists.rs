@@ -1,13 +1,15 @@
-//! What is drawn for `drive` is what it says: lists as drawn are accepted, sizes are met, and every
-//! answer that `allele` can give occurs.
+//! What is drawn for `drive` is what it says: lists as drawn are accepted, sizes are met, every answer
+//! that a call can give occurs, and a row of calls of `mark` is made on one buffer.
 
 mod common;
 
 use common::random::Random;
 use second::drawn::list::Drawn;
+use second::drawn::pairs::{apart, crowd, pair, strangers};
 use second::drawn::sizes::{sized_list, sized_reference, sized_text};
-use second::drive::draw::draw;
-use second::drive::pipe::Told;
+use second::drive::case::{Call, Case};
+use second::drive::draw::{draw, Asked};
+use second::drive::frame::Frames;
 use second::drive::tally::Tally;
 use second::Refusal;
 
@@ -46,14 +48,55 @@ fn sizes_are_met_and_one_too_many_refused() {
 }
 
 #[test]
-fn every_answer_occurs_and_no_other_counts_as_the_same() {
-    let (mut same, mut changed) = (Tally::default(), Tally::default());
-    for number in 0..10_000 {
-        let case = draw(1, number);
-        let answer = case.expected();
-        changed.note(draw(1, number), Some(Told { answer, changed: true }));
-        same.note(case, Some(Told { answer, changed: false }));
+fn two_lists_as_drawn_are_accepted_on_one_reference() {
+    for seed in 820_000..820_400 {
+        let random = &mut Random::new(seed);
+        for [first, second] in [pair(random, 20), crowd(random), strangers(random), apart(random)] {
+            assert_eq!((&first.reference, &first.name), (&second.reference, &second.name));
+            assert_eq!(read(&first), Ok(first.records.len()));
+            assert_eq!(read(&second), Ok(second.records.len()));
+        }
     }
-    assert_eq!((same.cases, same.differences, same.rare_kinds()), (10_000, 0, vec![]));
-    assert_eq!(changed.differences, 10_000);
+}
+
+fn cases(asked: Asked) -> impl Iterator<Item = Case> {
+    (0..).flat_map(move |number| draw(asked, 1, number)).take(10_000)
+}
+
+#[test]
+fn every_answer_occurs_and_no_other_counts_as_the_same() {
+    for asked in [Asked::Allele, Asked::Normal, Asked::Plan, Asked::Mark] {
+        let (mut same, mut changed) = (Tally::default(), Tally::default());
+        for (number, case) in cases(asked).enumerate() {
+            let mut other = case.expected.clone();
+            match other.left.len() {
+                0 => other.changed = true,
+                length if number % 2 == 0 => other.left[number % length] ^= 1,
+                _ => other.answer.value ^= 1,
+            }
+            changed.note(Case::new(&case.reference, &case.name, case.call.clone()), Some(other));
+            let told = case.expected.clone();
+            same.note(case, Some(told));
+        }
+        assert_eq!((same.cases, same.differences), (10_000, 0));
+        assert_eq!(same.rare_kinds(asked), [""; 0]);
+        assert_eq!(changed.differences, 10_000);
+    }
+}
+
+#[test]
+fn a_row_of_calls_of_mark_is_made_on_one_buffer() {
+    for number in 0..400 {
+        let (mut frames, mut left) = (Frames::default(), None);
+        for case in draw(Asked::Mark, 2, number) {
+            let frame = frames.frame(&case);
+            let Call::Mark { marks, .. } = &case.call else { continue };
+            // The marks stand before the cluster's number: their count says that they are there.
+            let count = &frame[frame.len() - 12..frame.len() - 8];
+            if let Some(left) = &left {
+                assert_eq!((marks, count), (left, &[0xff; 4][..]));
+            }
+            left = Some(case.expected.left);
+        }
+    }
 }

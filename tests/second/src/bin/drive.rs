@@ -1,19 +1,20 @@
-//! `drive COUNT SEED COMMAND..` draws COUNT cases from SEED, has the driver COMMAND make the calls of
-//! the C library, and holds each answer to this package's own.
+//! `drive CALL COUNT SEED COMMAND..` draws COUNT cases of CALL, which is allele, normal, plan or mark, from
+//! SEED, has the driver COMMAND make the calls of the C library, and holds each answer and all memory
+//! lent to this package's own. A run of mark is made of rows of calls on one buffer, their plans among them.
 
-use second::drive::draw::draw;
+use second::drive::draw::{draw, Asked};
 use second::drive::pipe::drive;
 use second::drive::tally::Tally;
 use std::process::ExitCode;
 
 fn main() -> ExitCode {
     let arguments: Vec<String> = std::env::args().skip(1).collect();
-    let Some((count, seed, command)) = parsed(&arguments) else {
-        eprintln!("usage: drive COUNT SEED COMMAND..");
+    let Some((asked, count, seed, command)) = parsed(&arguments) else {
+        eprintln!("usage: drive allele|normal|plan|mark COUNT SEED COMMAND..");
         return ExitCode::from(2);
     };
     let mut tally = Tally::default();
-    let cases = (0..count).map(|number| draw(seed, number));
+    let cases = (0..count).flat_map(|number| draw(asked, seed, number)).take(count as usize);
     let ended = match drive(command, cases, |case, told| tally.note(case, told)) {
         Ok(ended) => ended,
         Err(error) => {
@@ -25,11 +26,11 @@ fn main() -> ExitCode {
     if !ended.success() {
         println!("drive: the driver ended with {ended}");
     }
-    let (cases, differences, rare) = (tally.cases, tally.differences, tally.rare_kinds());
+    let (cases, differences, rare) = (tally.cases, tally.differences, tally.rare_kinds(asked));
     if !rare.is_empty() {
-        println!("drive: too rarely answered: {rare:?}");
+        println!("drive: too rarely answered: {}", rare.join(", "));
     }
-    println!("drive: {cases} cases, seed {seed}, {differences} differences");
+    println!("drive: {} cases of {}, seed {seed}, {differences} differences", cases, arguments[0]);
     let is_whole = ended.success() && cases == count;
     match is_whole && differences == 0 && rare.is_empty() {
         true => ExitCode::SUCCESS,
@@ -37,8 +38,9 @@ fn main() -> ExitCode {
     }
 }
 
-fn parsed(arguments: &[String]) -> Option<(u64, u64, &[String])> {
-    let [count, seed, command @ ..] = arguments else { return None };
-    let numbers = (count.parse().ok()?, seed.parse().ok()?);
-    (!command.is_empty()).then_some((numbers.0, numbers.1, command))
+fn parsed(arguments: &[String]) -> Option<(Asked, u64, u64, &[String])> {
+    let [call, count, seed, command @ ..] = arguments else { return None };
+    let asked = Asked::named(call)?;
+    let (count, seed) = (count.parse().ok()?, seed.parse().ok()?);
+    (!command.is_empty()).then_some((asked, count, seed, command))
 }

@@ -9,6 +9,7 @@ use second::drawn::list::{fill_line, Fields};
 use second::drawn::lists::{raw, NAME};
 use second::drawn::random::Random;
 use second::drive::case::{Call, Case};
+use second::drive::frame::Frames;
 use std::process::ExitCode;
 
 const BASES: usize = 65_535;
@@ -21,25 +22,27 @@ const LONGEST_LINE: usize = 126;
 
 fn main() -> ExitCode {
     let arguments: Vec<String> = std::env::args().skip(1).collect();
-    let case = match &arguments[..] {
+    let card = match &arguments[..] {
         [shape, _] => full_card(shape),
         _ => None,
     };
-    let Some(case) = case else {
+    let Some((reference, text)) = card else {
         eprintln!("usage: full_card short|carried|alleles|longest FILE");
         return ExitCode::from(2);
     };
-    if let Err(error) = std::fs::write(&arguments[1], case.frame()) {
+    let records = second::read(&reference, NAME, 1, &text).expect("accepted").records.len();
+    let sizes = format!("{} {records} {}", text.len(), reference.len());
+    let case = Case::new(&reference, NAME, Call::Allele { text, entry: usize::MAX, allele: 0 });
+    if let Err(error) = std::fs::write(&arguments[1], Frames::default().frame(&case)) {
         eprintln!("full_card: {}: {error}", arguments[1]);
         return ExitCode::FAILURE;
     }
-    let Case { reference, text, .. } = &case;
-    let records = second::read(reference, NAME, 1, text).expect("accepted").records;
-    println!("{} {} {}", text.len(), records.len(), reference.len());
+    println!("{sizes}");
     ExitCode::SUCCESS
 }
 
-fn full_card(shape: &str) -> Option<Case> {
+/// A reference and the text of a list.
+fn full_card(shape: &str) -> Option<(Vec<u8>, Vec<u8>)> {
     let mut random = Random::new(1);
     let reference: Vec<u8> = (0..BASES).map(|_| *random.pick(b"ACGT")).collect();
     let (ref_length, line_length) = match shape {
@@ -59,8 +62,7 @@ fn full_card(shape: &str) -> Option<Case> {
         Some(line)
     };
     let text = raw((0..RECORDS).map_while(record));
-    let call = Call::Allele { entry: usize::MAX, allele: 0 };
-    Some(Case { reference, name: NAME.to_vec(), text, call })
+    Some((reference, text))
 }
 
 /// The alleles have one length and differ in their last bases only, so that comparing costs the most.

@@ -3,12 +3,13 @@
 
 use super::lists::{all_lines, COLUMN_LINE, NAME, VERSION_LINE};
 use super::random::Random;
+use super::repeats::{repeat, repeat_entry};
 use super::world::{random_copies, random_entry, random_reference};
 use crate::Entry;
 
 /// The longest line, without its LF.
 pub const LINE_MOST: usize = 1_024;
-const ALLELE_MOST: usize = 64;
+pub const ALLELE_MOST: usize = 64;
 
 // The fields of a record that are changed by name.
 pub const CHROM: usize = 0;
@@ -23,6 +24,7 @@ pub const SAMPLE: usize = 9;
 pub type Fields = Vec<Vec<u8>>;
 
 /// A reference, a name and a list, not yet put together to a text.
+#[derive(Clone)]
 pub struct Drawn {
     pub reference: Vec<u8>,
     pub name: Vec<u8>,
@@ -34,9 +36,11 @@ pub struct Drawn {
 impl Drawn {
     /// A list of at most `most` records on a small reference.
     pub fn new(random: &mut Random, most: usize) -> Drawn {
-        let reference = match random.once_in(16) {
-            true => any_bases(random, 1, 300),
-            false => random_reference(random),
+        let length = random.between(1, 300);
+        let reference = match random.below(16) {
+            0 => any_bases(random, length, length),
+            1 | 2 => repeat(random, length),
+            _ => random_reference(random),
         };
         let count = random.between(0, most);
         Drawn::on(random, reference, count)
@@ -45,8 +49,18 @@ impl Drawn {
     /// A list of `count` records on this reference.
     pub fn on(random: &mut Random, reference: Vec<u8>, count: usize) -> Drawn {
         let name = any_name(random);
-        let mut entries: Vec<Entry> = (0..count).map(|_| any_entry(random, &reference)).collect();
-        entries.sort_by_key(|entry| entry.pos);
+        let entries = any_entries(random, &reference, count);
+        Drawn::of(random, reference, name, &entries)
+    }
+
+    /// Another list of `count` records for the reference and the name of this one.
+    pub fn beside(&self, random: &mut Random, count: usize) -> Drawn {
+        let entries = any_entries(random, &self.reference, count);
+        Drawn::of(random, self.reference.clone(), self.name.clone(), &entries)
+    }
+
+    /// The list of these entries.
+    pub fn of(random: &mut Random, reference: Vec<u8>, name: Vec<u8>, entries: &[Entry]) -> Drawn {
         let records = entries.iter().map(|entry| fields(random, &name, entry)).collect();
         Drawn { header: header(random), reference, name, records }
     }
@@ -80,7 +94,7 @@ fn any_bytes(random: &mut Random, least: usize, most: usize) -> Vec<u8> {
 }
 
 /// A name that CHROM can have: it does not begin a `#` line.
-fn any_name(random: &mut Random) -> Vec<u8> {
+pub fn any_name(random: &mut Random) -> Vec<u8> {
     if !random.once_in(4) {
         return NAME.to_vec();
     }
@@ -103,11 +117,20 @@ fn header(random: &mut Random) -> Vec<Vec<u8>> {
     lines
 }
 
-/// Short alleles mostly, as `world` draws them; else alleles of up to 64 bases, often up to the
-/// reference's end.
+/// So many entries, by POS.
+fn any_entries(random: &mut Random, reference: &[u8], count: usize) -> Vec<Entry> {
+    let mut entries: Vec<Entry> = (0..count).map(|_| any_entry(random, reference)).collect();
+    entries.sort_by_key(|entry| entry.pos);
+    entries
+}
+
+/// Short alleles mostly, as `world` draws them; else alleles of up to 64 bases, as `repeats` draws them or
+/// any, often up to the reference's end.
 fn any_entry(random: &mut Random, reference: &[u8]) -> Entry {
-    if !random.once_in(4) {
-        return random_entry(random, reference);
+    match random.below(8) {
+        0 => {}
+        1 | 2 => return repeat_entry(random, reference),
+        _ => return random_entry(random, reference),
     }
     let length = random.between(1, ALLELE_MOST.min(reference.len()));
     let last = reference.len() - length;

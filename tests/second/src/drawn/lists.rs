@@ -27,6 +27,13 @@ pub fn raw(lines: impl IntoIterator<Item = Vec<u8>>) -> Vec<u8> {
     all_lines(header.into_iter().chain(lines))
 }
 
+/// The lines before the records, which say what bcftools asks to be told, of a reference of so many bases.
+pub fn contig_header(bases: usize) -> [Vec<u8>; 4] {
+    let contig = format!("##contig=<ID=chr1,length={bases}>");
+    let genotype = "##FORMAT=<ID=GT,Number=1,Type=String,Description=\"Genotype\">";
+    [VERSION_LINE, &contig, genotype, COLUMN_LINE].map(|line| line.as_bytes().to_vec())
+}
+
 /// A text of nothing but these lines.
 pub fn all_lines(lines: impl IntoIterator<Item = Vec<u8>>) -> Vec<u8> {
     let mut text = Vec::new();

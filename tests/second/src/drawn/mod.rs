@@ -2,14 +2,18 @@
 //!
 //! - `random` gives numbers from a seed, `lists` makes texts of short records
 //! - `world` draws small references with two lists, of which `rewritten` makes the second from the first
-//! - `list` draws one list in all its variety, `sizes` one of the sizes where the rules change
+//! - `repeats` draws repeats and entries in them
+//! - `list` draws one list in all its variety, `sizes` one of the sizes where the rules change, `pairs`
+//!   two lists on one reference
 //! - `fault` breaks a chosen row of the table in such a list, `damage` breaks any text anywhere
 
 pub mod damage;
 pub mod fault;
 pub mod list;
 pub mod lists;
+pub mod pairs;
 pub mod random;
+pub mod repeats;
 pub mod rewritten;
 pub mod sizes;
 pub mod world;

@@ -2,6 +2,7 @@
 
 use super::list::{any_bases, Drawn};
 use super::random::Random;
+use super::repeats::repeat;
 
 const REFERENCES: [usize; 6] = [0, 1, 65_534, 65_535, 65_536, 70_000];
 const TEXTS: [usize; 7] = [0, 1, 65_535, 65_536, 65_536, 65_537, 70_000];
@@ -10,8 +11,7 @@ const RECORDS: [usize; 4] = [511, 512, 513, 514];
 /// A list on a reference of one of these sizes, which may be none.
 pub fn sized_reference(random: &mut Random) -> Drawn {
     let length = *random.pick(&REFERENCES);
-    let unit = any_bases(random, 1, 40);
-    let reference = unit.into_iter().cycle().take(length).collect();
+    let reference = repeat(random, length);
     let count = if length == 0 { 0 } else { random.below(6) };
     Drawn::on(random, reference, count)
 }

@@ -1,21 +1,33 @@
-//! One call of the C library with all that is lent to it, and the answer that the rules demand.
-//!
-//! The frames are those of tests/driver/driver.c, all numbers little-endian.
+//! One call of the C library with all that is lent to it, and what the rules demand that it answers
+//! and leaves.
 
-use crate::{Refusal, Shown};
+use crate::{Cluster, Marked, Refusal, Shown};
 
-/// What every call is lent, and the call itself.
+/// What every call is lent, the call itself, and what it must come to.
 pub struct Case {
     pub reference: Vec<u8>,
     pub name: Vec<u8>,
-    pub text: Vec<u8>,
     pub call: Call,
+    pub expected: Told,
 }
 
-/// A call, with what only it is given.
-#[derive(Clone, Copy, Debug)]
+/// A call, with what only it is given. `out`, the plan of `Plan` and `marks` are what it may write.
+#[derive(Clone, Debug)]
 pub enum Call {
-    Allele { entry: usize, allele: usize },
+    Allele { text: Vec<u8>, entry: usize, allele: usize },
+    Normal { text: Vec<u8>, out: Vec<u8> },
+    Plan { texts: [Vec<u8>; 2], plan: Vec<Cluster> },
+    Mark { texts: [Vec<u8>; 2], plan: Vec<Cluster>, cluster: usize, marks: Vec<u8> },
+}
+
+/// What is told of a call.
+#[derive(Clone, Debug, PartialEq, Eq)]
+pub struct Told {
+    pub answer: Answer,
+    /// A byte changed that the call may not write: a lent one, or one beside them.
+    pub changed: bool,
+    /// The buffer that the call may write, as it is afterwards; empty where there is none.
+    pub left: Vec<u8>,
 }
 
 /// The four numbers of `card_answer` in include/card.h.
@@ -27,43 +39,91 @@ pub struct Answer {
     pub value: u32,
 }
 
-// The calls' numbers in a frame.
-const ALLELE: u32 = 1;
+/// The value that says that a cluster is undecided.
+const UNDECIDED: u32 = u32::MAX;
 
 impl Case {
-    /// The call's number, each lent buffer behind its count, then the numbers given.
-    pub fn frame(&self) -> Vec<u8> {
-        let (call, numbers) = match self.call {
-            Call::Allele { entry, allele } => (ALLELE, [entry, allele]),
-        };
-        let mut frame = call.to_le_bytes().to_vec();
-        for lent in [&self.reference, &self.name, &self.text] {
-            frame.extend((lent.len() as u32).to_le_bytes());
-            frame.extend(lent);
-        }
-        for number in numbers {
-            frame.extend((number as u64).to_le_bytes());
-        }
-        frame
+    pub fn new(reference: &[u8], name: &[u8], call: Call) -> Case {
+        let (answer, left) = expected(reference, name, &call);
+        let expected = Told { answer, changed: false, left };
+        Case { reference: reference.to_vec(), name: name.to_vec(), call, expected }
     }
 
-    /// What this package answers to the same call.
-    pub fn expected(&self) -> Answer {
-        match self.call {
-            Call::Allele { entry, allele } => {
-                let shown = crate::allele(&self.reference, &self.name, &self.text, entry, allele);
-                shown.map_or_else(Answer::refused, Answer::shown)
+    /// Each lent buffer with its name, in the call's order; what the call may write is the last.
+    pub fn lent(&self) -> Vec<(&'static str, Vec<u8>)> {
+        let mut lent = vec![("reference", self.reference.clone()), ("name", self.name.clone())];
+        match &self.call {
+            Call::Allele { text, .. } => lent.push(("text", text.clone())),
+            Call::Normal { text, out } => {
+                lent.extend([("text", text.clone()), ("out", out.clone())]);
             }
+            Call::Plan { texts: [first, second], plan } => {
+                lent.extend([("first", first.clone()), ("second", second.clone())]);
+                lent.push(("plan", plan_bytes(plan)));
+            }
+            Call::Mark { texts: [first, second], plan, marks, .. } => {
+                lent.extend([("first", first.clone()), ("second", second.clone())]);
+                lent.extend([("plan", plan_bytes(plan)), ("marks", marks.clone())]);
+            }
+        }
+        lent
+    }
+
+    /// The numbers given, in the call's order.
+    pub fn numbers(&self) -> Vec<usize> {
+        match self.call {
+            Call::Allele { entry, allele, .. } => vec![entry, allele],
+            Call::Normal { .. } | Call::Plan { .. } => Vec::new(),
+            Call::Mark { cluster, .. } => vec![cluster],
         }
     }
 
     /// How many bytes are lent.
     pub fn size(&self) -> usize {
-        self.reference.len() + self.name.len() + self.text.len()
+        self.lent().iter().map(|(_, bytes)| bytes.len()).sum()
     }
 }
 
+/// What this package answers to the call, and what it leaves of what the call may write.
+fn expected(reference: &[u8], name: &[u8], call: &Call) -> (Answer, Vec<u8>) {
+    match call {
+        Call::Allele { text, entry, allele } => {
+            let shown = crate::allele(reference, name, text, *entry, *allele);
+            (shown.map_or_else(Answer::refused, Answer::shown), Vec::new())
+        }
+        Call::Normal { text, out } => {
+            let mut left = out.clone();
+            let written = crate::normal(reference, name, text, &mut left);
+            (Answer::of(written.map(|length| length as u32)), left)
+        }
+        Call::Plan { texts: [first, second], plan } => {
+            let mut left = plan.clone();
+            let clusters = crate::plan(reference, name, first, second, &mut left);
+            (Answer::of(clusters), plan_bytes(&left))
+        }
+        Call::Mark { texts: [first, second], plan, cluster, marks } => {
+            let mut left = marks.clone();
+            let marked = crate::mark(reference, name, first, second, plan, *cluster, &mut left);
+            let value = |marked| match marked {
+                Marked::Score(score) => score,
+                Marked::Undecided => UNDECIDED,
+            };
+            (Answer::of(marked.map(value)), left)
+        }
+    }
+}
+
+/// The records as they lie in memory.
+fn plan_bytes(plan: &[Cluster]) -> Vec<u8> {
+    plan.iter().flat_map(|record| [record.first, record.count]).flat_map(u32::to_le_bytes).collect()
+}
+
 impl Answer {
+    fn of(value: Result<u32, Refusal>) -> Answer {
+        let given = |value| Answer { number: 0, list: 0, line: 0, value };
+        value.map_or_else(Answer::refused, given)
+    }
+
     fn refused(refusal: Refusal) -> Answer {
         let Refusal { number, list, line } = refusal;
         Answer { number, list, line, value: 0 }

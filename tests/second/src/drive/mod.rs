@@ -1,11 +1,16 @@
-//! Drives the card's C library with drawn cases and holds each answer to this package's own.
+//! Drives the card's C library with drawn cases and holds each answer, and all memory that was lent,
+//! to this package's own.
 //!
-//! - `case` is one call with all that is lent to it: its frame for the driver, and its answer
+//! - `case` is one call with all that is lent to it, and what it must come to
 //! - `draw` draws case after case from a seed
+//! - `frame` is what is sent to the driver for a case, and what it tells
 //! - `pipe` sends the cases to the driver and takes its answers
-//! - `tally` counts the numbers that were answered and keeps the smallest differences
+//! - `kind` says what kind of answer a case has
+//! - `tally` counts the kinds that were answered and keeps the smallest differences
 
 pub mod case;
 pub mod draw;
+pub mod frame;
+pub mod kind;
 pub mod pipe;
 pub mod tally;

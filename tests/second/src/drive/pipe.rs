@@ -1,21 +1,11 @@
 //! The driver as one process for all cases: one thread draws and sends, the other takes the answers.
 
-use super::case::{Answer, Case};
-use std::io::{self, BufReader, BufWriter, Read, Write};
+use super::case::{Case, Told};
+use super::frame::{read_told, Frames};
+use std::io::{self, BufReader, BufWriter, Write};
 use std::process::{Command, ExitStatus, Stdio};
 use std::sync::mpsc;
 use std::thread;
-
-/// What the driver tells of one call.
-#[derive(Clone, Copy, Debug, PartialEq, Eq)]
-pub struct Told {
-    pub answer: Answer,
-    /// A byte changed that the call may not write: a lent one, or one beside them.
-    pub changed: bool,
-}
-
-/// Four numbers of four bytes and one that tells of changed bytes.
-const TOLD_BYTES: usize = 17;
 
 /// Sends all cases to `command` and gives each with what is told of it to `each`. Where the driver
 /// ends early, the last case is the one that it ended on, and is given with None. Returns how the
@@ -36,7 +26,7 @@ pub fn drive(
     thread::scope(|scope| {
         scope.spawn(move || send(input, cases, &sent));
         for case in sent_cases {
-            let told = read_told(&mut output);
+            let told = read_told(&mut output, case.expected.left.len());
             let ended = told.is_none();
             each(case, told);
             if ended {
@@ -51,19 +41,11 @@ pub fn drive(
 /// the driver ends. A driver that ended takes no more, and its other cases are left away.
 fn send(input: impl Write, cases: impl Iterator<Item = Case>, sent: &mpsc::Sender<Case>) {
     let mut input = BufWriter::new(input);
+    let mut frames = Frames::default();
     for case in cases {
-        let frame = case.frame();
+        let frame = frames.frame(&case);
         if sent.send(case).is_err() || input.write_all(&frame).is_err() {
             return;
         }
     }
-}
-
-fn read_told(output: &mut impl Read) -> Option<Told> {
-    let mut bytes = [0; TOLD_BYTES];
-    output.read_exact(&mut bytes).ok()?;
-    let number =
-        |at: usize| u32::from_le_bytes(bytes[4 * at..4 * at + 4].try_into().expect("four"));
-    let answer = Answer { number: number(0), list: number(1), line: number(2), value: number(3) };
-    Some(Told { answer, changed: bytes[TOLD_BYTES - 1] != 0 })
 }

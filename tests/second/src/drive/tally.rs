@@ -1,60 +1,61 @@
-//! What a run came upon: how often each number was answered, and where the answers differ.
+//! What a run came upon: how often each kind was answered, and where the answers differ.
 
-use super::case::{Answer, Case};
-use super::pipe::Told;
+use super::case::{Case, Told};
+use super::draw::Asked;
+use super::kind::{kinds, Kind};
 use std::collections::BTreeMap;
 use std::fmt::{self, Display};
 
-/// Each kind is to be answered at least once in so many cases.
-const ONCE_IN: u64 = 1_000;
+/// Each kind is to be answered at least once in so many calls.
+const ONCE_IN: u64 = 2_000;
 
 /// So many differences are shown, the smallest ones.
 const SHOWN: usize = 3;
 
-/// So many bytes of a lent buffer are shown.
+/// So many bytes of a lent buffer are shown, and so many lines of a text.
 const BYTES_SHOWN: usize = 4_000;
+const LINES_SHOWN: usize = 40;
 
 #[derive(Default)]
 pub struct Tally {
     pub cases: u64,
     pub differences: u64,
-    kinds: BTreeMap<(u32, u32), u64>,
+    kinds: BTreeMap<Kind, u64>,
+    /// Of differences one behind the other only the first: the others may follow from it, where a
+    /// buffer is lent as it was left.
     smallest: Vec<Difference>,
-}
-
-/// The numbers that `allele` can answer, each with its list. Number 0 is an answered call, its list
-/// where the allele is shown.
-fn kinds() -> impl Iterator<Item = (u32, u32)> {
-    let of_the_list = (3..=15).map(|number| (number, 1));
-    [(0, 0), (0, 1), (1, 0), (18, 0)].into_iter().chain(of_the_list)
+    last_differed: bool,
 }
 
 struct Difference {
     number: u64,
     case: Case,
-    expected: Answer,
     told: Option<Told>,
 }
 
 impl Tally {
     pub fn note(&mut self, case: Case, told: Option<Told>) {
-        let expected = case.expected();
         let number = self.cases;
         self.cases += 1;
-        *self.kinds.entry((expected.number, expected.list)).or_default() += 1;
-        if told == Some(Told { answer: expected, changed: false }) {
+        *self.kinds.entry(Kind::of(&case)).or_default() += 1;
+        let is_first = !self.last_differed;
+        self.last_differed = told.as_ref() != Some(&case.expected);
+        self.differences += u64::from(self.last_differed);
+        if !self.last_differed || !is_first {
             return;
         }
-        self.differences += 1;
-        self.smallest.push(Difference { number, case, expected, told });
+        self.smallest.push(Difference { number, case, told });
         self.smallest.sort_by_key(|difference| difference.case.size());
         self.smallest.truncate(SHOWN);
     }
 
-    /// The kinds that were answered too rarely for so many cases to have tried them.
-    pub fn rare_kinds(&self) -> Vec<(u32, u32)> {
-        let count = |kind: &(u32, u32)| self.kinds.get(kind).copied().unwrap_or(0);
-        kinds().filter(|kind| count(kind) < self.cases / ONCE_IN).collect()
+    /// The kinds of the call that were answered too rarely for so many calls to have tried them.
+    pub fn rare_kinds(&self, asked: Asked) -> Vec<String> {
+        let kinds = kinds(asked);
+        let count = |kind: &Kind| self.kinds.get(kind).copied().unwrap_or(0);
+        let all: u64 = kinds.iter().map(count).sum();
+        let is_rare = |kind: &&Kind| count(kind) < all / ONCE_IN;
+        kinds.iter().filter(is_rare).map(Kind::to_string).collect()
     }
 }
 
@@ -63,37 +64,47 @@ impl Display for Tally {
         for difference in &self.smallest {
             writeln!(out, "{difference}")?;
         }
-        write!(out, "answers by number/list, number 0 where not refused:")?;
-        for ((number, list), count) in &self.kinds {
-            write!(out, " {number}/{list} {count},")?;
-        }
-        writeln!(out)
+        let kinds: Vec<String> =
+            self.kinds.iter().map(|(kind, count)| format!("{kind} {count}")).collect();
+        writeln!(out, "answers by call, and by number/list where refused: {}", kinds.join(", "))
     }
 }
 
 impl Display for Difference {
     fn fmt(&self, out: &mut fmt::Formatter) -> fmt::Result {
-        let Difference { number, case, expected, told } = self;
-        writeln!(out, "case {number}: {:?}", case.call)?;
-        for (what, lent) in [("reference", &case.reference), ("name", &case.name)] {
-            writeln!(out, "  {what}, {} bytes: {}", lent.len(), shown(lent))?;
+        let Difference { number, case, told } = self;
+        writeln!(out, "case {number}: {}, numbers {:?}", Kind::of(case).call, case.numbers())?;
+        for (what, lent) in case.lent() {
+            writeln!(out, "  {what}, {} bytes: {}", lent.len(), shown(what, &lent))?;
         }
-        writeln!(out, "  text, {} bytes:", case.text.len())?;
-        for (number, line) in case.text.split_inclusive(|byte| *byte == b'\n').enumerate().take(40)
-        {
-            writeln!(out, "  {:5} {}", number + 1, shown(line))?;
+        let expected = &case.expected;
+        writeln!(out, "  expected {:?}", expected.answer)?;
+        let Some(told) = told else { return writeln!(out, "  the driver ended without an answer") };
+        writeln!(out, "  answered {:?}, bytes changed: {}", told.answer, told.changed)?;
+        let mut pairs = expected.left.iter().zip(&told.left);
+        if let Some(at) = pairs.position(|(expected, told)| expected != told) {
+            let part = |left: &[u8]| left[at..left.len().min(at + 40)].escape_ascii().to_string();
+            writeln!(out, "  expected to be left from byte {at} on: {}", part(&expected.left))?;
+            writeln!(out, "  left there: {}", part(&told.left))?;
         }
-        writeln!(out, "  expected {expected:?}")?;
-        match told {
-            None => writeln!(out, "  the driver ended without an answer"),
-            Some(told) => {
-                writeln!(out, "  answered {:?}, bytes changed: {}", told.answer, told.changed)
-            }
-        }
+        Ok(())
     }
 }
 
-fn shown(bytes: &[u8]) -> String {
+/// A text by its lines, a plan by its records, and anything else by its bytes.
+fn shown(what: &str, bytes: &[u8]) -> String {
     let cut = if bytes.len() > BYTES_SHOWN { " .." } else { "" };
-    format!("{}{cut}", bytes[..bytes.len().min(BYTES_SHOWN)].escape_ascii())
+    let first = &bytes[..bytes.len().min(BYTES_SHOWN)];
+    let number = |part: &[u8]| u32::from_le_bytes(part.try_into().expect("four bytes"));
+    match what {
+        "text" | "first" | "second" => {
+            let lines = first.split_inclusive(|byte| *byte == b'\n').take(LINES_SHOWN);
+            lines.map(|line| format!("\n    {}", line.escape_ascii())).collect()
+        }
+        "plan" => {
+            let records = bytes.chunks(8).take(LINES_SHOWN);
+            records.map(|part| format!(" {}+{}", number(&part[..4]), number(&part[4..]))).collect()
+        }
+        _ => format!("{}{cut}", first.escape_ascii()),
+    }
 }

@@ -1,0 +1,67 @@
+//! Case after case from a seed, for one of the calls: on lists as drawn, with aimed faults and with
+//! blind damage.
+//!
+//! - `spoil` breaks what is lent
+//! - `one_list` draws the calls of one list, `allele` and `normal`
+//! - `two_lists` draws `plan`, `marks` whole rows of calls of `mark` on one buffer
+//! - `folders` draws what program compare reads
+
+pub mod folders;
+mod marks;
+mod one_list;
+mod spoil;
+mod two_lists;
+
+use super::case::Case;
+use crate::drawn::random::Random;
+
+/// The call that a run is about.
+#[derive(Clone, Copy, Debug, PartialEq, Eq)]
+pub enum Asked {
+    Allele,
+    Normal,
+    Plan,
+    Mark,
+}
+
+impl Asked {
+    pub fn named(name: &str) -> Option<Asked> {
+        match name {
+            "allele" => Some(Asked::Allele),
+            "normal" => Some(Asked::Normal),
+            "plan" => Some(Asked::Plan),
+            "mark" => Some(Asked::Mark),
+            _ => None,
+        }
+    }
+}
+
+/// Row `number` of cases of the run with this seed: a single one, but for `mark`.
+pub fn draw(asked: Asked, seed: u64, number: u64) -> Vec<Case> {
+    let random = &mut random_of(seed, number);
+    match asked {
+        Asked::Allele => vec![one_list::allele(random)],
+        Asked::Normal => vec![one_list::normal(random)],
+        Asked::Plan => vec![two_lists::plan(random)],
+        Asked::Mark => marks::row(random),
+    }
+}
+
+/// An odd factor, so that runs of neighbouring seeds share no cases.
+fn random_of(seed: u64, number: u64) -> Random {
+    Random::new(seed.wrapping_mul(0xD134_2543_DE82_EF95).wrapping_add(number))
+}
+
+/// Any bytes, for lent room to hold before a call.
+fn any_room(random: &mut Random, length: usize) -> Vec<u8> {
+    (0..length).map(|_| random.below(256) as u8).collect()
+}
+
+/// A number that is no index, or is one in its lower 8, 16 or 32 bits only.
+fn beyond(random: &mut Random, index: usize, count: usize) -> usize {
+    match random.below(3) {
+        0 => count,
+        1 => index.wrapping_add(*random.pick(&[1 << 63, 1 << 32, 1 << 16, 1 << 8, 512, 1_024])),
+        _ => *random.pick(&[usize::MAX, usize::MAX - 1, 1 << 63, count + 1]),
+    }
+}

@@ -1,0 +1,66 @@
+//! The frames of tests/driver/driver.c, all numbers little-endian.
+
+use super::case::{Answer, Call, Case, Told};
+use std::io::Read;
+
+/// The count that says that a buffer is the one that was lent last in its place, as it was left.
+const AS_LEFT: u32 = u32::MAX;
+
+/// What stands in the driver's buffers, by their place in a call, if all calls so far went as expected.
+#[derive(Default)]
+pub struct Frames {
+    left: Vec<Option<Vec<u8>>>,
+}
+
+impl Frames {
+    /// The call's number, each lent buffer behind its count, then the numbers given. A buffer that the
+    /// driver already has is not sent again: so the marks of a row of calls are all made in one.
+    pub fn frame(&mut self, case: &Case) -> Vec<u8> {
+        let mut frame = call_number(&case.call).to_le_bytes().to_vec();
+        let lent = case.lent();
+        self.left.resize(self.left.len().max(lent.len()), None);
+        let last = lent.len() - 1;
+        for (place, (_, bytes)) in lent.into_iter().enumerate() {
+            if self.left[place].as_ref() == Some(&bytes) {
+                frame.extend(AS_LEFT.to_le_bytes());
+            } else {
+                frame.extend((bytes.len() as u32).to_le_bytes());
+                frame.extend(&bytes);
+                self.left[place] = Some(bytes);
+            }
+        }
+        if writes(&case.call) {
+            self.left[last] = Some(case.expected.left.clone());
+        }
+        for number in case.numbers() {
+            frame.extend((number as u64).to_le_bytes());
+        }
+        frame
+    }
+}
+
+fn call_number(call: &Call) -> u32 {
+    match call {
+        Call::Allele { .. } => 1,
+        Call::Normal { .. } => 2,
+        Call::Plan { .. } => 3,
+        Call::Mark { .. } => 4,
+    }
+}
+
+fn writes(call: &Call) -> bool {
+    !matches!(call, Call::Allele { .. })
+}
+
+/// What the driver tells of a call that leaves `length` bytes; None where it ended without.
+pub fn read_told(output: &mut impl Read, length: usize) -> Option<Told> {
+    let mut number = || {
+        let mut bytes = [0; 4];
+        output.read_exact(&mut bytes).ok().map(|()| u32::from_le_bytes(bytes))
+    };
+    let answer = Answer { number: number()?, list: number()?, line: number()?, value: number()? };
+    let (mut changed, mut left) = ([0], vec![0; length]);
+    output.read_exact(&mut changed).ok()?;
+    output.read_exact(&mut left).ok()?;
+    Some(Told { answer, changed: changed != [0], left })
+}
