@@ -68,6 +68,9 @@ typedef struct {
     uint32_t number, list, line, value;
 } card_answer;
 
+/* The most that the card takes: so many bases of a reference, so many bytes of a list's text. */
+enum { CARD_BASES_MOST = 65535, CARD_TEXT_MOST = 65536 };
+
 /*
  * Where an allele of an entry stands. Nothing is written or copied.
  *
@@ -103,7 +106,10 @@ typedef struct {
     uint32_t first, count;
 } card_cluster;
 
-/* The room that every plan and every buffer of marks has to have: so many clusters, so many bytes. */
+/*
+ * The room that every plan and every buffer of marks has to have: so many clusters, so many bytes. It is as many entries as two
+ * accepted lists can have, and so as many clusters: no larger room is ever needed.
+ */
 enum { CARD_LEAST = 1024 };
 
 /* The value that says that a cluster is undecided. */
