@@ -1,16 +1,21 @@
 /*
- * card.h   the comparison card for C and C++: links with libcard_abi.a (x86-64).
+ * card.h   the comparison card for C and C++: links with libcard_abi.a (x86-64), which `rt staticlib card_abi` puts in
+ * target/staticlib. examples/c/matched.c is a whole program that uses it.
  *
- * Every call is a plain function. It allocates nothing, keeps no pointer and has no state: the same input gives the same
- * answer, from any thread. It ends and stays inside the memory lent to it, for all bytes, counts and numbers.
+ * Every call is a plain function. It allocates nothing, keeps no pointer and has no state: it judges all its input anew, and
+ * the same input gives the same answer, from any thread. It ends and stays inside the memory lent to it, for all bytes, counts
+ * and numbers.
  *
  * What the caller keeps:
  *
- *   - A buffer is lent as a pointer and a count of elements. The pointer is valid for that count and is not NULL, also where
- *     the count is 0: then any other pointer will do.
+ *   - A buffer is lent as a pointer and a count of elements: bytes, or the clusters of a plan. The pointer is valid and aligned
+ *     for that many elements and is not NULL, also where the count is 0: then any other aligned pointer will do. Texts and
+ *     names need no NUL behind them, and a NUL among their bytes is a byte like any other.
  *   - Through a pointer to const the card only reads. Such buffers may overlap one another.
  *   - A buffer that the card writes overlaps no other buffer of the call.
- *   - Nothing else writes to a lent buffer until the call returns.
+ *   - Nothing else writes to a lent buffer until the call returns, and nothing else reads one that the card writes.
+ *   - The thread has enough stack: 256 KiB will do. card_mark took 143,072 bytes of it where that was measured, with a cluster
+ *     of twelve entries.
  *
  * All else is the card's part: bad input is refused, and a refused call changes no lent byte.
  */
@@ -36,9 +41,10 @@ enum card_refusal {
                                      below the length of the given text */
     CARD_WRONG_TEXT = 3,          /* list text over 65,536 bytes, or not ending in LF (so also empty) */
     CARD_LONG_LINE = 4,           /* a line over 1,024 bytes, its LF not counted */
-    CARD_WRONG_HEADER = 5,        /* line 1 is not the version line; a line before the column line does not begin with ##;
-                                     the column line is wrong or missing (told at the line number after the last); a line
-                                     behind it begins with # */
+    CARD_WRONG_HEADER = 5,        /* line 1 is not exactly ##fileformat=VCFv4.2; the first line that does not begin with ## is
+                                     not the column line (the TAB-separated fields #CHROM POS ID REF ALT QUAL FILTER INFO
+                                     FORMAT and a tenth that is not empty); there is no column line, told at the line number
+                                     after the last; a line behind it begins with # */
     CARD_NOT_TEN_FIELDS = 6,      /* a record has not ten TAB-separated fields, or an empty one */
     CARD_WRONG_CHROM = 7,         /* CHROM is not the name given */
     CARD_WRONG_POS = 8,           /* POS is not 1 to 65,535, decimal, without leading zero */
@@ -51,8 +57,9 @@ enum card_refusal {
     CARD_NOT_THE_REFERENCE = 13,  /* REF runs past the reference or differs from it */
     CARD_POS_FALLS = 14,          /* POS is below that of the record before */
     CARD_TOO_MANY_RECORDS = 15,   /* a 513th record */
-    CARD_NO_CLUSTER = 16,         /* no such cluster */
-    CARD_NOT_THE_PLAN = 17,       /* the plan given is not the plan of these lists */
+    CARD_NO_CLUSTER = 16,         /* the cluster's number is not below the number of clusters */
+    CARD_NOT_THE_PLAN = 17,       /* the plan given is not the plan of these lists: only its first records, as many as there
+                                     are clusters, are judged */
     CARD_NO_ALLELE = 18           /* no such entry in the list, or an allele number above its number of ALTs */
 };
 
@@ -61,8 +68,9 @@ enum card_refusal {
  *
  * Refused: number is a card_refusal above 0. list is the list that it is about, 1 or 2, and 0 where it is about none (1, 2,
  * 16, 17, 18). line is the line in that list's text, from 1, and 0 where it is about none (those and 3). value is 0.
+ * A call with one list calls it list 1.
  *
- * Answered: number is 0, and the call says what list, line and value are.
+ * Answered: number is CARD_ANSWERED, and the call says what value is. list and line are 0 where it does not speak of them.
  */
 typedef struct {
     uint32_t number, list, line, value;
@@ -76,7 +84,8 @@ enum { CARD_BASES_MOST = 65535, CARD_TEXT_MOST = 65536 };
  *
  * reference   the bases, without LF
  * name        what CHROM of every record has to be; any bytes
- * text        the list in the subset of VCF 4.2 that the card reads; it is list 1 of a refusal
+ * text        the list: a version line, other lines that begin with ##, a column line, and 0 to 512 records of ten fields, as
+ *             card_refusal has it; ID, QUAL, FILTER and INFO are not read
  * entry       the entry's number in the list, from 0
  * allele      0 for REF, 1 and 2 for the ALTs
  *
@@ -93,9 +102,9 @@ card_answer card_allele(const uint8_t *reference, size_t reference_count, const 
  * reference, name, text   as for card_allele
  * out                     room for the written text, at least as long as the text given
  *
- * Answered: value is how many bytes were written, from the first on; no other byte of out changes. Header lines come first, then
- * the records by new POS, equal POS in the order read. Only POS, REF and ALT are replaced. What is written is accepted by every
- * call, gives the same donors, and written again is itself.
+ * Answered: value is how many bytes were written, from the first on; no other byte of out changes. Header lines come first,
+ * then the records by new POS, equal POS in the order read. Only POS, REF and ALT are replaced. What is written is accepted by
+ * every call, gives the same donors, and written again is itself.
  * Refused: 1, 2, 3 to 15. No byte of out changes.
  */
 card_answer card_normal(const uint8_t *reference, size_t reference_count, const uint8_t *name, size_t name_count,
@@ -107,8 +116,8 @@ typedef struct {
 } card_cluster;
 
 /*
- * The room that every plan and every buffer of marks has to have: so many clusters, so many bytes. It is as many entries as two
- * accepted lists can have, and so as many clusters: no larger room is ever needed.
+ * The room that every plan and every buffer of marks has to have: so many clusters, so many bytes. Two accepted lists have at
+ * most as many entries, and so at most as many clusters: no larger room is ever needed.
  */
 enum { CARD_LEAST = 1024 };
 
@@ -120,7 +129,7 @@ enum { CARD_LEAST = 1024 };
  *
  * reference, name   as for card_allele
  * first, second     list 1 and list 2
- * plan              room for CARD_LEAST clusters or more
+ * plan              room for CARD_LEAST clusters or more; plan_count counts clusters, not bytes
  *
  * Answered: value is the number of clusters. The plan's first records, one a cluster, are written; no other record changes.
  * Refused: 1, 2, 3 to 15. No record changes.
@@ -133,14 +142,18 @@ card_answer card_plan(const uint8_t *reference, size_t reference_count, const ui
  * Marks the entries of one cluster.
  *
  * reference, name, first, second   as for card_plan
- * plan       the plan of these lists, as card_plan writes it; what stands behind its clusters may be anything
+ * plan       the plan of these lists, as card_plan writes it, in a buffer of CARD_LEAST clusters or more; what stands behind
+ *            the plan's own may be anything
  * cluster    the cluster's number, from 0
- * marks      CARD_LEAST bytes or more, one an entry in merged order: POS, then list 1 before list 2, then order in the list
+ * marks      room for CARD_LEAST marks or more, one byte an entry, in merged order: POS, then list 1 before list 2, then order
+ *            in the list
  *
- * Answered: the marks of the cluster's entries are written, and no other byte of marks changes: '+' where the entry is chosen as
- * written, '-' where it is chosen with its copies exchanged, '0' where it is left out. value is the cluster's score. A cluster of 13
- * entries or more is undecided: each of its marks is '?', and value is CARD_UNDECIDED.
- * Once each cluster has been answered, in whatever order, the marks are those of the best pair over the two whole lists.
+ * Answered: the marks of the cluster's entries are written, and no other byte of marks changes. An entry that matches is '+'
+ * where it is taken as written, and '-' where its two copies are exchanged. One that is left out is '0'. value is the cluster's
+ * score, the number of its entries that match. A cluster of 13 entries or more is undecided: each of its marks is '?', and value
+ * is CARD_UNDECIDED.
+ * Once each cluster has been answered, in whatever order, every entry of a decided cluster has the mark that the best pair over
+ * the two whole lists gives it.
  * Refused: 1, 2, 3 to 15, 17, 16. No byte of marks changes.
  */
 card_answer card_mark(const uint8_t *reference, size_t reference_count, const uint8_t *name, size_t name_count,

@@ -24,8 +24,8 @@
 enum { ANSWERED = 0, REFUSED = 1, FAILED = 2 }; /* the exit statuses */
 
 /*
- * The longest list text that the card takes has CARD_TEXT_MOST bytes, and so has the longest reference with its LF. One byte
- * more is read: then the card refuses a file that is too long, and is never given the beginning of one.
+ * The longest list text that the card takes has CARD_TEXT_MOST bytes. So has the longest reference, CARD_BASES_MOST bases, with
+ * its LF. One byte more is read: the card then refuses a file that is too long, and is never given the beginning of one.
  */
 enum { ROOM = CARD_TEXT_MOST + 1 };
 
@@ -63,7 +63,7 @@ static int read_file(const char *path, uint8_t room[ROOM], struct part *read)
 
 /*
  * The bases of a reference file: all but the LF at its end, which the card does not take. A file without that LF may have been
- * cut short. It gives no bases, and the card refuses that with CARD_WRONG_REFERENCE.
+ * cut short: it gives no bases, and the card refuses that with CARD_WRONG_REFERENCE.
  */
 static struct part bases_of(struct part file)
 {
