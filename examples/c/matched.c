@@ -167,7 +167,8 @@ static int compare(struct part reference, struct part first, struct part second)
         printf("refused\t%u\t%u\t%u\n", (unsigned)answer.number, (unsigned)answer.list, (unsigned)answer.line);
         return REFUSED;
     }
-    print_matched(entries, marks, merge(first, second, entries));
+    size_t count = merge(first, second, entries);
+    print_matched(entries, marks, count);
     return ANSWERED;
 }
 
@@ -192,7 +193,7 @@ int main(int argc, char **argv)
 
     int status = compare(bases_of(reference), first, second);
 
-    /* A full disk or a closed pipe shows here: without this, lines could be lost and nobody told. */
+    /* A full disk shows here at the latest: without this, lines could be lost and nobody told. */
     if (fflush(stdout) != 0 || ferror(stdout)) {
         perror("matched");
         return FAILED;
