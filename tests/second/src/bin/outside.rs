@@ -5,7 +5,7 @@
 //! between; with an odd seed it begins with a repeat. The records, each with an ID of its own, have one or two ALTs
 //! and stand anywhere in a repeat, so that their normal form is up to some 500 places to the left.
 
-use second::drawn::lists::{all_lines, contig_header};
+use second::drawn::lists::contig_text;
 use second::drawn::random::Random;
 use second::drawn::world::random_copies;
 use second::Entry;
@@ -42,7 +42,7 @@ fn main() -> ExitCode {
     let files = [
         ("reference.txt", format!("{bases}\n").into_bytes()),
         ("reference.fa", format!(">chr1\n{bases}\n").into_bytes()),
-        ("first.vcf", text(&entries, reference.len())),
+        ("first.vcf", contig_text(&entries, reference.len())),
     ];
     for (name, bytes) in files {
         std::fs::write(folder.join(name), bytes).expect("a file is written");
@@ -118,15 +118,4 @@ fn entry_in(random: &mut Random, reference: &[u8], repeat: &Repeat) -> Entry {
     }
     let copies = random_copies(random, alts.len());
     Entry { pos: from + 1, reference: reference[from..to].to_vec(), alts, copies }
-}
-
-fn text(entries: &[Entry], length: usize) -> Vec<u8> {
-    let record = |(number, entry): (usize, &Entry)| {
-        let string = |bytes: &[u8]| String::from_utf8(bytes.to_vec()).expect("bases");
-        let Entry { pos, reference, alts, copies: [left, right] } = entry;
-        let (reference, alts) = (string(reference), string(&alts.join(&b',')));
-        format!("chr1\t{pos}\tr{number}\t{reference}\t{alts}\t.\t.\t.\tGT\t{left}/{right}")
-            .into_bytes()
-    };
-    all_lines(contig_header(length).into_iter().chain(entries.iter().enumerate().map(record)))
 }

@@ -34,6 +34,18 @@ pub fn contig_header(bases: usize) -> [Vec<u8>; 4] {
     [VERSION_LINE, &contig, genotype, COLUMN_LINE].map(|line| line.as_bytes().to_vec())
 }
 
+/// The text that lists these entries for bcftools too, on a reference of so many bases. The ID of each record is `r` and its number.
+pub fn contig_text(entries: &[Entry], bases: usize) -> Vec<u8> {
+    let record = |(number, entry): (usize, &Entry)| {
+        let string = |bytes: &[u8]| String::from_utf8(bytes.to_vec()).expect("bases");
+        let Entry { pos, reference, alts, copies: [left, right] } = entry;
+        let (reference, alts) = (string(reference), string(&alts.join(&b',')));
+        format!("chr1\t{pos}\tr{number}\t{reference}\t{alts}\t.\t.\t.\tGT\t{left}/{right}")
+            .into_bytes()
+    };
+    all_lines(contig_header(bases).into_iter().chain(entries.iter().enumerate().map(record)))
+}
+
 /// A text of nothing but these lines.
 pub fn all_lines(lines: impl IntoIterator<Item = Vec<u8>>) -> Vec<u8> {
     let mut text = Vec::new();
