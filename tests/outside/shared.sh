@@ -1,11 +1,10 @@
 # What the tests beside this file share. Each sources it and so stands in the top folder, with bcftools, the programs that draw lists, and an
 # empty folder $work that is taken away in the end.
-set -euo pipefail
 cd "$(dirname "${BASH_SOURCE[0]}")/../.."
 
 # Debian's bcftools is installed where that can be done; without it the test is skipped and says so.
 if ! command -v bcftools >/dev/null && ! { [ "$(id -u)" = 0 ] && apt-get install -y bcftools; } >/dev/null 2>&1; then
-    echo "outside: skipped, there is no bcftools"
+    echo "outside: $(basename "$0") is skipped, there is no bcftools"
     exit 0
 fi
 work=$(mktemp -d)

@@ -2,7 +2,8 @@
 //! first.vcf and second.vcf, and reference.fa, the same bases in bcftools' form.
 //!
 //! The reference has no N. It is made of small worlds, one behind the other, with drawn bases between, so that mostly each world gives
-//! a cluster or more. One world in three is a repeat with one change, which each list writes somewhere in it.
+//! a cluster or more; it begins and ends with a world. One world in three is a repeat with one change, which each list writes
+//! somewhere in it.
 
 use second::drawn::lists::contig_text;
 use second::drawn::random::Random;
@@ -39,15 +40,17 @@ fn main() -> ExitCode {
 }
 
 fn joined_worlds(random: &mut Random) -> World {
-    let mut joined = World { reference: any_bases(random, BETWEEN), lists: [vec![], vec![]] };
+    let mut joined = World { reference: vec![], lists: [vec![], vec![]] };
     while joined.lists.iter().all(|list| list.len() < RECORDS_ENOUGH) {
         let world = if random.once_in(3) { repeat_world(random) } else { world_without_n(random) };
+        if !joined.reference.is_empty() {
+            joined.reference.extend(any_bases(random, BETWEEN));
+        }
         for (list, entries) in joined.lists.iter_mut().zip(world.lists) {
             let moved = |entry: Entry| Entry { pos: entry.pos + joined.reference.len(), ..entry };
             list.extend(entries.into_iter().map(moved));
         }
         joined.reference.extend(world.reference);
-        joined.reference.extend(any_bases(random, BETWEEN));
     }
     joined
 }

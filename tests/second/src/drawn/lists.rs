@@ -34,7 +34,7 @@ pub fn contig_header(bases: usize) -> [Vec<u8>; 4] {
     [VERSION_LINE, &contig, genotype, COLUMN_LINE].map(|line| line.as_bytes().to_vec())
 }
 
-/// The text that lists these entries for bcftools too, on a reference of so many bases. The ID of each record is `r` and its number.
+/// The text that lists these entries under that header. The ID of each record is `r` and its number.
 pub fn contig_text(entries: &[Entry], bases: usize) -> Vec<u8> {
     let record = |(number, entry): (usize, &Entry)| {
         let string = |bytes: &[u8]| String::from_utf8(bytes.to_vec()).expect("bases");
