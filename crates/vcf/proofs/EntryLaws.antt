@@ -8,22 +8,29 @@
 --     entries-at, entries-past         the entries from a place on: the first and the rest, and at the end
 --     entry-there, entry-none          the entry some lines on
 --     entry-number, entries-iff        entry i of a text, and whether there is one
+--     entry-is                         what is read off a line, field by field, is its entry
 -- Assumes nothing.
 use mathlib.Core.Bool.{true, false}
 use mathlib.Core.List.{List, [], _∷_}
 use mathlib.Core.Logic.{_↔_}
 use mathlib.Core.Path.{_≡_, refl, ap, _∙_}
-use Prim.Native.Nat.{ℕ, zero, suc, _+_, _≤_, _<_}
+use Prim.Native.Nat.{ℕ, zero, suc, _+_, _-_, _≤_, _<_}
 use native.Mathlib.Decide.{decLt}
+use native.Mathlib.Nat.{zero-add}
 use native.Mathlib.Omega.{arith}
 use borrow.Author.Tests.{le-leb, lt-leb}
 use lib.Dec.{T}
 use lib.ListN.{length, getD, drop}
 use lib.Seq.{length-take-le}
 use Rattle.vcf.specs.declared.entry.Entry.{Entry}
-use Rattle.vcf.specs.Bytes.{LF, until}
-use Rattle.vcf.specs.Entry.{lineAt, nextLine, entryOf, headerBytes, recordsAt, entriesFrom, entriesOf, readable?, allReadable?, readableFrom?, skipLines, recordAt}
+use Rattle.vcf.specs.declared.entry.Part.{Part}
+use Rattle.vcf.specs.Allele.{altCount}
+use Rattle.vcf.specs.Bytes.{LF, COMMA, until}
+use Rattle.vcf.specs.Entry.{part, lineAt, nextLine, entryOf, headerBytes, recordsAt, entriesFrom, entriesOf, readable?, allReadable?, readableFrom?, skipLines, recordAt}
+use Rattle.vcf.specs.Field.{fieldAt, fieldFrom}
+use Rattle.vcf.specs.Genotype.{copy0, copy1}
 use Rattle.vcf.specs.Header.{headerLine?}
+use Rattle.vcf.specs.Record.{posOn, genotypeOn}
 use Rattle.vcf.specs.List.{linesOf}
 use Rattle.bases.proofs.TestLaws.{both}
 use Rattle.vcf.proofs.BytesLaws.{until-le}
@@ -133,3 +140,17 @@ module _ (t : List ℕ) where
       go : i < length (entriesOf t) → Dec (recordAt t i < length t) → recordAt t i < length t
       go h (yes k) = k
       go h (no k) = absurd (omega (arith, entry-none i (recordsAt t) (omega arith)))
+
+pub entry-is : (l : List ℕ) (a : ℕ) {p r k end n : ℕ} {bases alt g : List ℕ} {second : Part}
+  → p ≡ posOn l → r ≡ fieldAt 3 l → bases ≡ fieldFrom l r → k ≡ fieldAt 4 l → alt ≡ fieldFrom l k → end ≡ 0 + until COMMA alt
+  → second ≡ part (a + k + end + 1) (length alt - (end + 1)) → n ≡ altCount alt → g ≡ genotypeOn l
+  → _≡_ {A = Entry} record {
+      pos = record { 0 = p };
+      reference = part (a + r) (length bases);
+      first = part (a + k) end;
+      second = second;
+      alts = n;
+      copy0 = copy0 g;
+      copy1 = copy1 g;
+    } (entryOf l a)
+entry-is l a {alt = alt} e1 e2 e3 e4 e5 e6 e7 e8 e9 = let e = e6 ∙ zero-add (until COMMA alt) in cc

@@ -1,9 +1,10 @@
 -- Laws of fields.
 --     until-within, field-length        a byte is found within what is left of the line; a field is as long as that
 --     skip-zero, skip-more, skip-add    no field on, one, and some behind others
+--     field-on                          a field so many fields behind another
 --     full-zero, full-stop, full-more   no field left; an empty field; one field on
 --     full-within, field-within         each field of a full line begins within the line
---     Read, read                        where the fields that are read begin
+--     Read, read, fields-are            where the fields that are read begin
 -- Assumes nothing.
 use mathlib.Core.Bool.{Bool, true, false, _&&_}
 use mathlib.Core.List.{List}
@@ -40,6 +41,9 @@ pub skip-add : (j k : ℕ) (l : List ℕ) (a : ℕ) → skip k l (skip j l a) �
 unfolding skip
 skip-add zero k l a = rw zero-add
 skip-add (suc j) k l a = rw suc-add (skip-add j k l (fieldEnd l a + 1))
+
+pub field-on : (j k : ℕ) (l : List ℕ) {a b : ℕ} → a ≡ fieldAt j l → b ≡ skip k l a → b ≡ fieldAt (j + k) l
+field-on j k l e h = h ∙ ap (skip k l) e ∙ skip-add j k l 0
 
 pub full-zero : (l : List ℕ) (a : ℕ) → full? 0 l a ≡ eqb a (length l + 1)
 unfolding full?
@@ -85,3 +89,7 @@ read l f e =
       format = ap (λ (g : Fields). g .format) e;
       sample = ap (λ (g : Fields). g .sample) e;
     }
+
+pub fields-are : (l : List ℕ) {p r a f s : ℕ} → p ≡ fieldAt 1 l → r ≡ fieldAt 3 l → a ≡ fieldAt 4 l → f ≡ fieldAt 8 l → s ≡ fieldAt 9 l
+  → _≡_ {A = Fields} record { pos = p; reference = r; alt = a; format = f; sample = s } (fieldsOf l)
+fields-are l e1 e3 e4 e8 e9 = cc

@@ -6,10 +6,12 @@
 --     off-past, off-within           row 13, by whether REF runs past the reference
 --     record-ten                     a line on which no row holds has ten fields
 --     readable-ten, readable-right   what a line has off which an entry can be read
+--     sample-read, copies-read, format-read, alts-read, genotype-read
+--                                    the genotype, FORMAT and the number of ALTs that are read off it, and row 11 by them
 -- Assumes nothing.
 use mathlib.Core.Bool.{Bool, true, false, not, _&&_, _||_}
 use mathlib.Core.List.{List}
-use mathlib.Core.Path.{_≡_, refl, sym, subst, _∙_}
+use mathlib.Core.Path.{_≡_, refl, sym, ap, subst, _∙_}
 use Prim.Native.Nat.{ℕ, _+_, _-_, _≤_, _<_}
 use native.Mathlib.Decide.{ℕ-discrete}
 use native.Mathlib.Omega.{arith}
@@ -20,10 +22,11 @@ use Rattle.bases.specs.Same.{sameBases?}
 use Rattle.bases.proofs.TestLaws.{both, of-true, is-false}
 use Rattle.vcf.specs.Allele.{altCount}
 use Rattle.vcf.specs.Entry.{readable?}
-use Rattle.vcf.specs.Field.{field, tenFields?}
-use Rattle.vcf.specs.Genotype.{formatWrong?, separator?, digitTo?, copiesWrong?, copy0, copy1}
+use Rattle.vcf.specs.declared.field.Fields.{Fields}
+use Rattle.vcf.specs.Field.{fieldFrom, field, tenFields?, fieldsOf}
+use Rattle.vcf.specs.Genotype.{formatWrong?, genotype, separator?, digitTo?, copiesWrong?, copy0, copy1}
 use Rattle.vcf.specs.Pos.{digit?}
-use Rattle.vcf.specs.Record.{genotypeOn, genotypeWrong?, offReference?, recordRows}
+use Rattle.vcf.specs.Record.{genotypeOn, genotypeWrong?, noAlt?, offReference?, recordRows}
 use Rattle.vcf.specs.Row.{firstRow}
 use Rattle.vcf.proofs.RowLaws.{none-holds, record-rows-numbered}
 
@@ -92,3 +95,25 @@ readable-ten l t = both (tenFields? l) (not (genotypeWrong? l)) .0 t .0
 
 pub readable-right : (l : List ℕ) → T (readable? l) → genotypeWrong? l ≡ false
 readable-right l t = is-false (genotypeWrong? l) (T-not (genotypeWrong? l) (both (tenFields? l) (not (genotypeWrong? l)) .0 t .1))
+
+-- the genotype, read where the sample's field begins
+pub sample-read : (l : List ℕ) {f : Fields} {sample g : List ℕ} → f ≡ fieldsOf l → sample ≡ fieldFrom l (f .sample) → g ≡ genotype sample → g ≡ genotypeOn l
+sample-read l e s k = cc
+
+-- FORMAT and the number of ALTs, read where their fields begin
+pub format-read : (l : List ℕ) {f : Fields} {format : List ℕ} {b : Bool} → f ≡ fieldsOf l → format ≡ fieldFrom l (f .format) → b ≡ formatWrong? format → b ≡ formatWrong? (field 8 l)
+format-read l e s k = cc
+
+pub alts-read : (l : List ℕ) {f : Fields} {alt : List ℕ} {n : ℕ} → f ≡ fieldsOf l → alt ≡ fieldFrom l (f .alt) → n ≡ altCount alt → n ≡ altCount (field 4 l)
+alts-read l e s k = cc
+
+-- row 11, by what is read
+pub genotype-read : (l : List ℕ) {n : ℕ} {g : List ℕ} {b : Bool} → formatWrong? (field 8 l) ≡ false → n ≡ altCount (field 4 l) → g ≡ genotypeOn l → b ≡ copiesWrong? n g → b ≡ genotypeWrong? l
+genotype-read l right e k h = let r = format-right l right in cc
+
+pub copies-read : (l : List ℕ) → genotypeWrong? l ≡ false → {g : List ℕ} → g ≡ genotypeOn l → Copies g
+copies-read l right e = subst Copies (sym e) (genotype-right l right)
+
+-- row 12, by the genotype that is read
+pub no-alt-read : (l : List ℕ) {g : List ℕ} → g ≡ genotypeOn l → Copies g → eqb (getD g 0 0) 48 && eqb (getD g 2 0) 48 ≡ noAlt? l
+no-alt-read l {g} e w = no-alt g w ∙ ap (λ (x : List ℕ). eqb (copy0 x) 0 && eqb (copy1 x) 0) e

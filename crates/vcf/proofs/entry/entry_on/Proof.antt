@@ -8,7 +8,8 @@ use Rattle.vcf.specs.Bytes.{TAB, COMMA, until}
 use Rattle.vcf.specs.Field.{fieldAt, field}
 use Rattle.vcf.specs.Record.{genotypeOn}
 use Rattle.vcf.proofs.FieldLaws.{until-within, field-length, field-within, read}
-use Rattle.vcf.proofs.RecordLaws.{readable-ten, readable-right, genotype-right}
+use Rattle.vcf.proofs.EntryLaws.{entry-is}
+use Rattle.vcf.proofs.RecordLaws.{readable-ten, readable-right, sample-read, copies-read}
 use Rattle.vcf.proofs.entry.entry_on.Statement.{statement}
 use Rattle.vcf.proofs.entry.entry_on.Tie as tie
 
@@ -80,39 +81,19 @@ alt-count-requires : tie.Need-alt-count-requires
 alt-count-requires c κs = search needs
 
 shared-slice-read-t22 : tie.Need-shared-slice-read-t22
-shared-slice-read-t22 c =
-    let l = c .before .before .before .before .before .before .before .before .before .before .before .args .line .now in
-    let f = read l (c .before .before .before .before .before .before .before .before .before .fields-of .result) (c .before .before .before .before .before .before .before .before .before .fields-of .ensures) in
-    let g : c .before .before .before .genotype-of .result .now ≡ genotypeOn l = cc (f .sample) in
-    let w = genotype-right l (readable-right l (c .before .before .before .before .before .before .before .before .before .before .before .pre .0)) in
-    rw g (omega arith)
+shared-slice-read-t22 c = let w = copies-read (c .before .before .before .before .before .before .before .before .before .before .before .args .line .now) (readable-right (c .before .before .before .before .before .before .before .before .before .before .before .args .line .now) (c .before .before .before .before .before .before .before .before .before .before .before .pre .0)) (sample-read (c .before .before .before .before .before .before .before .before .before .before .before .args .line .now) (c .before .before .before .before .before .before .before .before .before .fields-of .ensures) (c .before .before .before .before .field-from3 .ensures) (c .before .before .before .genotype-of .ensures)) in rw (w .long) (lit< tt)
 
 sub-t23 : tie.Need-sub-t23
-sub-t23 c =
-    let l = c .before .before .before .before .before .before .before .before .before .before .before .args .line .now in
-    let f = read l (c .before .before .before .before .before .before .before .before .before .fields-of .result) (c .before .before .before .before .before .before .before .before .before .fields-of .ensures) in
-    let g : c .before .before .before .genotype-of .result .now ≡ genotypeOn l = cc (f .sample) in
-    let w = genotype-right l (readable-right l (c .before .before .before .before .before .before .before .before .before .before .before .pre .0)) in
-    rw g (w .first)
+sub-t23 c = copies-read (c .before .before .before .before .before .before .before .before .before .before .before .args .line .now) (readable-right (c .before .before .before .before .before .before .before .before .before .before .before .args .line .now) (c .before .before .before .before .before .before .before .before .before .before .before .pre .0)) (sample-read (c .before .before .before .before .before .before .before .before .before .before .before .args .line .now) (c .before .before .before .before .before .before .before .before .before .fields-of .ensures) (c .before .before .before .before .field-from3 .ensures) (c .before .before .before .genotype-of .ensures)) .first
 
 cast-t24 : tie.Need-cast-t24
 cast-t24 c = omega (arith, c .shared-slice-known2 .given 0)
 
 shared-slice-read-t26 : tie.Need-shared-slice-read-t26
-shared-slice-read-t26 c =
-    let l = c .before .before .before .before .before .before .before .before .before .before .before .before .args .line .now in
-    let f = read l (c .before .before .before .before .before .before .before .before .before .before .fields-of .result) (c .before .before .before .before .before .before .before .before .before .before .fields-of .ensures) in
-    let g : c .before .before .before .before .genotype-of .result .now ≡ genotypeOn l = cc (f .sample) in
-    let w = genotype-right l (readable-right l (c .before .before .before .before .before .before .before .before .before .before .before .before .pre .0)) in
-    rw g (omega arith)
+shared-slice-read-t26 c = let w = copies-read (c .before .before .before .before .before .before .before .before .before .before .before .before .args .line .now) (readable-right (c .before .before .before .before .before .before .before .before .before .before .before .before .args .line .now) (c .before .before .before .before .before .before .before .before .before .before .before .before .pre .0)) (sample-read (c .before .before .before .before .before .before .before .before .before .before .before .before .args .line .now) (c .before .before .before .before .before .before .before .before .before .before .fields-of .ensures) (c .before .before .before .before .before .field-from3 .ensures) (c .before .before .before .before .genotype-of .ensures)) in rw (w .long) (lit< tt)
 
 sub-t27 : tie.Need-sub-t27
-sub-t27 c =
-    let l = c .before .before .before .before .before .before .before .before .before .before .before .before .args .line .now in
-    let f = read l (c .before .before .before .before .before .before .before .before .before .before .fields-of .result) (c .before .before .before .before .before .before .before .before .before .before .fields-of .ensures) in
-    let g : c .before .before .before .before .genotype-of .result .now ≡ genotypeOn l = cc (f .sample) in
-    let w = genotype-right l (readable-right l (c .before .before .before .before .before .before .before .before .before .before .before .before .pre .0)) in
-    rw g (w .last)
+sub-t27 c = copies-read (c .before .before .before .before .before .before .before .before .before .before .before .before .args .line .now) (readable-right (c .before .before .before .before .before .before .before .before .before .before .before .before .args .line .now) (c .before .before .before .before .before .before .before .before .before .before .before .before .pre .0)) (sample-read (c .before .before .before .before .before .before .before .before .before .before .before .before .args .line .now) (c .before .before .before .before .before .before .before .before .before .before .fields-of .ensures) (c .before .before .before .before .before .field-from3 .ensures) (c .before .before .before .before .genotype-of .ensures)) .last
 
 cast-t28 : tie.Need-cast-t28
 cast-t28 c = omega (arith, c .shared-slice-known3 .given 2)
@@ -121,13 +102,16 @@ returns : tie.Need-returns
 returns c =
     let l = c .before .before .before .before .before .before .before .before .before .before .before .before .args .line .now in
     let f = read l (c .before .before .before .before .before .before .before .before .before .before .fields-of .result) (c .before .before .before .before .before .before .before .before .before .before .fields-of .ensures) in
-    let alt : c .before .before .before .before .before .before .before .field-from2 .result .now ≡ field 4 l = cc (f .alt) in
-    let g : c .before .before .before .before .genotype-of .result .now ≡ genotypeOn l = cc (f .sample) in
-    let w = genotype-right l (readable-right l (c .before .before .before .before .before .before .before .before .before .before .before .before .pre .0)) in
-    let bases : c .before .before .before .before .before .before .before .before .field-from .result .now ≡ field 3 l = cc (f .reference) in
-    let found : c .before .before .before .before .before .before .find .result ≡ until COMMA (c .before .before .before .before .before .before .before .field-from2 .result .now) = omega arith in
-    let end : c .before .before .before .before .before .before .find .result ≡ until COMMA (field 4 l) = found ∙ ap (until COMMA) alt in
-    cc (f .reference, f .alt)
+    entry-is l (c .before .before .before .before .before .before .before .before .before .before .before .before .args .at)
+    (c .before .before .before .before .before .before .before .before .before .pos-on .ensures)
+    (f .reference)
+    (c .before .before .before .before .before .before .before .before .field-from .ensures)
+    (f .alt)
+    (c .before .before .before .before .before .before .before .field-from2 .ensures)
+    (c .before .before .before .before .before .before .find .ensures)
+    (c .before .before .before .second-part .ensures)
+    (c .before .before .alt-count .ensures)
+    (sample-read l (c .before .before .before .before .before .before .before .before .before .before .fields-of .ensures) (c .before .before .before .before .before .field-from3 .ensures) (c .before .before .before .before .genotype-of .ensures))
 
 pub entry-on-spec : {M : Type 1} → statement M
 entry-on-spec =

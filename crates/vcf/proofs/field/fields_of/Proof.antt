@@ -4,7 +4,7 @@ use native.Mathlib.Omega.{arith}
 use borrow.Author.Needs.{needs}
 use lib.Dec.{lit<}
 use Rattle.vcf.specs.Field.{fieldAt}
-use Rattle.vcf.proofs.FieldLaws.{skip-add, field-within}
+use Rattle.vcf.proofs.FieldLaws.{field-on, field-within, fields-are}
 use Rattle.vcf.proofs.field.fields_of.Statement.{statement}
 use Rattle.vcf.proofs.field.fields_of.Tie as tie
 
@@ -14,29 +14,36 @@ skip-fields-requires c κs = search needs
 skip-fields-requires-2 : tie.Need-skip-fields-requires-2
 skip-fields-requires-2 c κs =
     let l = c .before .before .args .line .now in
-    let e : c .skip-fields .result ≡ fieldAt 1 l = cc in
+    let e : c .skip-fields .result ≡ fieldAt 1 l = c .skip-fields .ensures in
     omega (arith, field-within l 1 (c .before .before .pre) (lit< tt))
 
 skip-fields-requires-3 : tie.Need-skip-fields-requires-3
 skip-fields-requires-3 c κs =
     let l = c .before .before .before .args .line .now in
-    let e : c .skip-fields2 .result ≡ fieldAt 3 l = cc (skip-add 1 2 l 0) in
+    let e : c .skip-fields2 .result ≡ fieldAt 3 l = field-on 1 2 (c .before .before .before .args .line .now) (c .before .skip-fields .ensures) (c .skip-fields2 .ensures) in
     omega (arith, field-within l 3 (c .before .before .before .pre) (lit< tt))
 
 skip-fields-requires-4 : tie.Need-skip-fields-requires-4
 skip-fields-requires-4 c κs =
     let l = c .before .before .before .before .args .line .now in
-    let e : c .skip-fields3 .result ≡ fieldAt 4 l = cc (skip-add 1 2 l 0, skip-add 3 1 l 0) in
+    let e : c .skip-fields3 .result ≡ fieldAt 4 l = field-on 3 1 (c .before .before .before .before .args .line .now) (field-on 1 2 (c .before .before .before .before .args .line .now) (c .before .before .skip-fields .ensures) (c .before .skip-fields2 .ensures)) (c .skip-fields3 .ensures) in
     omega (arith, field-within l 4 (c .before .before .before .before .pre) (lit< tt))
 
 skip-fields-requires-5 : tie.Need-skip-fields-requires-5
 skip-fields-requires-5 c κs =
     let l = c .before .before .before .before .before .args .line .now in
-    let e : c .skip-fields4 .result ≡ fieldAt 8 l = cc (skip-add 1 2 l 0, skip-add 3 1 l 0, skip-add 4 4 l 0) in
+    let e : c .skip-fields4 .result ≡ fieldAt 8 l = field-on 4 4 (c .before .before .before .before .before .args .line .now) (field-on 3 1 (c .before .before .before .before .before .args .line .now) (field-on 1 2 (c .before .before .before .before .before .args .line .now) (c .before .before .before .skip-fields .ensures) (c .before .before .skip-fields2 .ensures)) (c .before .skip-fields3 .ensures)) (c .skip-fields4 .ensures) in
     omega (arith, field-within l 8 (c .before .before .before .before .before .pre) (lit< tt))
 
 returns : tie.Need-returns
-returns c = let l = c .before .before .before .before .before .before .args .line .now in cc (skip-add 1 2 l 0, skip-add 3 1 l 0, skip-add 4 4 l 0, skip-add 8 1 l 0)
+returns c =
+    let l = c .before .before .before .before .before .before .args .line .now in
+    let e1 = c .before .before .before .before .skip-fields .ensures in
+    let e3 = field-on 1 2 l e1 (c .before .before .before .skip-fields2 .ensures) in
+    let e4 = field-on 3 1 l e3 (c .before .before .skip-fields3 .ensures) in
+    let e8 = field-on 4 4 l e4 (c .before .skip-fields4 .ensures) in
+    let e9 = field-on 8 1 l e8 (c .skip-fields5 .ensures) in
+    fields-are l e1 e3 e4 e8 e9
 
 pub fields-of-spec : {M : Type 1} → statement M
 fields-of-spec =

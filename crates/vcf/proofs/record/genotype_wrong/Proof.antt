@@ -1,10 +1,10 @@
 -- `vcf::record::genotype_wrong` meets its contract: the fields are read where they begin. Assumes nothing.
-use mathlib.Core.Path.{_≡_, sym}
+use mathlib.Core.Path.{_≡_, sym, _∙_}
 use native.Mathlib.Omega.{arith}
 use borrow.Author.Needs.{needs}
 use lib.Dec.{lit<}
 use Rattle.vcf.proofs.FieldLaws.{field-within, read}
-use Rattle.vcf.proofs.RecordLaws.{format-wrong, format-right}
+use Rattle.vcf.proofs.RecordLaws.{format-wrong, sample-read, format-read, alts-read, genotype-read}
 use Rattle.vcf.proofs.record.genotype_wrong.Statement.{statement}
 use Rattle.vcf.proofs.record.genotype_wrong.Tie as tie
 
@@ -18,8 +18,8 @@ format-wrong-requires c κs = search needs
 
 returns : tie.Need-returns
 returns c =
-    let f = read (c .before .before .before .before .args .line .now) (c .before .before .before .before .args .fields) (c .before .before .before .before .pre .1) in
-    sym (format-wrong (c .before .before .before .before .args .line .now) (cc (f .format)))
+    let l = c .before .before .before .before .args .line .now in
+    sym (format-wrong l (sym (format-read l (c .before .before .before .before .pre .1) (c .before .before .field-from .ensures) (c .before .format-wrong .ensures)) ∙ c .if1 .taken))
 
 field-from-requires-2 : tie.Need-field-from-requires-2
 field-from-requires-2 c κs =
@@ -42,9 +42,13 @@ copies-wrong-requires c κs = search needs
 
 returns-2 : tie.Need-returns-2
 returns-2 c =
-    let f = read (c .before .before .before .before .before .before .before .before .before .args .line .now) (c .before .before .before .before .before .before .before .before .before .args .fields) (c .before .before .before .before .before .before .before .before .before .pre .1) in
-    let right = format-right (c .before .before .before .before .before .before .before .before .before .args .line .now) (cc (f .format)) in
-    cc (f .alt, f .sample)
+    let l = c .before .before .before .before .before .before .before .before .before .args .line .now in
+    let p = c .before .before .before .before .before .before .before .before .before .pre .1 in
+    genotype-read l
+    (sym (format-read l p (c .before .before .before .before .before .before .before .field-from .ensures) (c .before .before .before .before .before .before .format-wrong .ensures)) ∙ c .before .before .before .before .before .if1 .left)
+    (alts-read l p (c .before .before .before .before .field-from2 .ensures) (c .before .before .before .alt-count .ensures))
+    (sample-read l p (c .before .before .field-from3 .ensures) (c .before .genotype-of .ensures))
+    (c .copies-wrong .ensures)
 
 pub genotype-wrong-spec : {M : Type 1} → statement M
 genotype-wrong-spec =
