@@ -142,9 +142,9 @@ module _ (t : List ℕ) where
       go h (no k) = absurd (omega (arith, entry-none i (recordsAt t) (omega arith)))
 
 pub entry-is : (l : List ℕ) (a : ℕ) {p r k end n : ℕ} {bases alt g : List ℕ} {second : Part}
-  → p ≡ posOn l → r ≡ fieldAt 3 l → bases ≡ fieldFrom l r → k ≡ fieldAt 4 l → alt ≡ fieldFrom l k → end ≡ 0 + until COMMA alt
-  → second ≡ part (a + k + end + 1) (length alt - (end + 1)) → n ≡ altCount alt → g ≡ genotypeOn l
-  → _≡_ {A = Entry} record {
+    → p ≡ posOn l → r ≡ fieldAt 3 l → bases ≡ fieldFrom l r → k ≡ fieldAt 4 l → alt ≡ fieldFrom l k → end ≡ 0 + until COMMA alt
+    → second ≡ part (a + k + end + 1) (length alt - (end + 1)) → n ≡ altCount alt → g ≡ genotypeOn l
+    → _≡_ {A = Entry} record {
       pos = record { 0 = p };
       reference = part (a + r) (length bases);
       first = part (a + k) end;

@@ -91,5 +91,5 @@ read l f e =
     }
 
 pub fields-are : (l : List ℕ) {p r a f s : ℕ} → p ≡ fieldAt 1 l → r ≡ fieldAt 3 l → a ≡ fieldAt 4 l → f ≡ fieldAt 8 l → s ≡ fieldAt 9 l
-  → _≡_ {A = Fields} record { pos = p; reference = r; alt = a; format = f; sample = s } (fieldsOf l)
+    → _≡_ {A = Fields} record { pos = p; reference = r; alt = a; format = f; sample = s } (fieldsOf l)
 fields-are l e1 e3 e4 e8 e9 = cc

@@ -6,8 +6,8 @@
 --     off-past, off-within           row 13, by whether REF runs past the reference
 --     record-ten                     a line on which no row holds has ten fields
 --     readable-ten, readable-right   what a line has off which an entry can be read
---     sample-read, copies-read, format-read, alts-read, genotype-read
---                                    the genotype, FORMAT and the number of ALTs that are read off it, and row 11 by them
+--     sample-read, copies-read, reference-read, format-read, alts-read, genotype-read, alt-read
+--                                    the genotype, REF, FORMAT and the number of ALTs that are read off it, and rows 11 and 10 by them
 -- Assumes nothing.
 use mathlib.Core.Bool.{Bool, true, false, not, _&&_, _||_}
 use mathlib.Core.List.{List}
@@ -20,13 +20,13 @@ use lib.Dec.{T, eqb, leb, eqb→eq, leb→le, T-not}
 use lib.ListN.{length, getD, take, drop}
 use Rattle.bases.specs.Same.{sameBases?}
 use Rattle.bases.proofs.TestLaws.{both, of-true, is-false}
-use Rattle.vcf.specs.Allele.{altCount}
+use Rattle.vcf.specs.Allele.{altCount, altsWrong?}
 use Rattle.vcf.specs.Entry.{readable?}
 use Rattle.vcf.specs.declared.field.Fields.{Fields}
 use Rattle.vcf.specs.Field.{fieldFrom, field, tenFields?, fieldsOf}
 use Rattle.vcf.specs.Genotype.{formatWrong?, genotype, separator?, digitTo?, copiesWrong?, copy0, copy1}
 use Rattle.vcf.specs.Pos.{digit?}
-use Rattle.vcf.specs.Record.{genotypeOn, genotypeWrong?, noAlt?, offReference?, recordRows}
+use Rattle.vcf.specs.Record.{altWrong?, genotypeOn, genotypeWrong?, noAlt?, offReference?, recordRows}
 use Rattle.vcf.specs.Row.{firstRow}
 use Rattle.vcf.proofs.RowLaws.{none-holds, record-rows-numbered}
 
@@ -100,7 +100,10 @@ readable-right l t = is-false (genotypeWrong? l) (T-not (genotypeWrong? l) (both
 pub sample-read : (l : List ℕ) {f : Fields} {sample g : List ℕ} → f ≡ fieldsOf l → sample ≡ fieldFrom l (f .sample) → g ≡ genotype sample → g ≡ genotypeOn l
 sample-read l e s k = cc
 
--- FORMAT and the number of ALTs, read where their fields begin
+-- REF, FORMAT and the number of ALTs, read where their fields begin
+pub reference-read : (l : List ℕ) {f : Fields} {bases : List ℕ} → f ≡ fieldsOf l → bases ≡ fieldFrom l (f .reference) → bases ≡ field 3 l
+reference-read l e s = s ∙ ap (λ (g : Fields). fieldFrom l (g .reference)) e
+
 pub format-read : (l : List ℕ) {f : Fields} {format : List ℕ} {b : Bool} → f ≡ fieldsOf l → format ≡ fieldFrom l (f .format) → b ≡ formatWrong? format → b ≡ formatWrong? (field 8 l)
 format-read l e s k = cc
 
@@ -117,3 +120,7 @@ copies-read l right e = subst Copies (sym e) (genotype-right l right)
 -- row 12, by the genotype that is read
 pub no-alt-read : (l : List ℕ) {g : List ℕ} → g ≡ genotypeOn l → Copies g → eqb (getD g 0 0) 48 && eqb (getD g 2 0) 48 ≡ noAlt? l
 no-alt-read l {g} e w = no-alt g w ∙ ap (λ (x : List ℕ). eqb (copy0 x) 0 && eqb (copy1 x) 0) e
+
+-- row 10, by REF and ALT that are read
+pub alt-read : (l : List ℕ) {f : Fields} {bases alt : List ℕ} {b : Bool} → f ≡ fieldsOf l → bases ≡ fieldFrom l (f .reference) → alt ≡ fieldFrom l (f .alt) → b ≡ altsWrong? bases alt → b ≡ altWrong? l
+alt-read l e r a h = cc

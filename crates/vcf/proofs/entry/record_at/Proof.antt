@@ -1,6 +1,6 @@
 -- `vcf::entry::record_at` meets its contract. The loop's invariant: `left` lines behind `at` is where record i begins. The measure is `left`.
 -- Assumes nothing.
-use mathlib.Core.Path.{_≡_, ap}
+use mathlib.Core.Path.{_≡_, sym, ap, _∙_}
 use Prim.Native.Nat.{ℕ, suc, _-_}
 use native.Mathlib.Omega.{arith}
 use borrow.Author.Needs.{needs}
@@ -19,14 +19,14 @@ records-at-requires : tie.Need-records-at-requires Inv-loop μ-loop
 records-at-requires c κs = search needs
 
 loop-holds : tie.Need-loop-holds Inv-loop μ-loop
-loop-holds c = cc
+loop-holds c = ap (λ (a : ℕ). skipLines (c .before .before .args .i) (c .before .before .args .text .now) a) (c .records-at .ensures)
 
 returns : tie.Need-returns Inv-loop μ-loop
 returns c =
     let t = c .before .before .before .before .before .args .text .now in
     let at = c .before .before .loop .at in
     let left = c .before .before .loop .left in
-    cc (skip-lines-past t left at (c .if1 .taken))
+    sym (skip-lines-past t left at (c .if1 .taken)) ∙ c .before .before .loop .inv
 
 next-line-requires : tie.Need-next-line-requires Inv-loop μ-loop
 next-line-requires c κs = omega arith
@@ -43,12 +43,15 @@ loop-again c =
     let at = c .before .before .before .loop .at in
     let left = c .before .before .before .loop .left in
     let e : left ≡ suc (left - 1) = omega arith in
-    cc (skip-lines-more t (left - 1) at (omega arith), ap (λ (k : ℕ). skipLines k t at) e)
+    let more = skip-lines-more t (left - 1) at (omega arith) in
+    ap (skipLines (left - 1) t) (c .next-line .ensures) ∙ sym more ∙ sym (ap (λ (k : ℕ). skipLines k t at) e) ∙ c .before .before .before .loop .inv
 
 returns-2 : tie.Need-returns-2 Inv-loop μ-loop
 returns-2 c =
     let e : c .before .loop .left ≡ 0 = omega arith in
-    cc (skip-lines-zero (c .before .before .before .before .args .text .now) (c .before .loop .at))
+    let t = c .before .before .before .before .args .text .now in
+    let at = c .before .loop .at in
+    sym (skip-lines-zero t at) ∙ sym (ap (λ (k : ℕ). skipLines k t at) e) ∙ c .before .loop .inv
 
 pub record-at-spec : {M : Type 1} → statement M
 record-at-spec =

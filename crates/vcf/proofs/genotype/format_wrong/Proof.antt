@@ -1,6 +1,6 @@
 -- `vcf::genotype::format_wrong` meets its contract: the field is GT, or else begins with GT: or is wrong. Assumes nothing.
 use mathlib.Core.Bool.{true, false}
-use mathlib.Core.Path.{_≡_}
+use mathlib.Core.Path.{_≡_, sym, _∙_}
 use borrow.Author.Needs.{needs}
 use Rattle.bases.specs.Same.{same?}
 use Rattle.vcf.specs.Bytes.{genotypeKey}
@@ -15,7 +15,7 @@ same-bytes-requires c κs = search needs
 
 returns : tie.Need-returns
 returns c =
-    let e : same? genotypeKey (c .before .before .before .before .args .field .now) ≡ true = cc in
+    let e : same? genotypeKey (c .before .before .before .before .args .field .now) ≡ true = sym (c .before .same-bytes .ensures) ∙ c .if1 .taken in
     rw e
 
 slice-aggregate-begins : tie.Need-slice-aggregate-begins
@@ -26,7 +26,7 @@ begins-requires c κs = search needs
 
 returns-2 : tie.Need-returns-2
 returns-2 c =
-    let e : same? genotypeKey (c .before .before .before .before .before .before .args .field .now) ≡ false = cc in
+    let e : same? genotypeKey (c .before .before .before .before .before .before .args .field .now) ≡ false = sym (c .before .before .before .same-bytes .ensures) ∙ c .before .before .if1 .left in
     rw (e, c .begins .ensures)
 
 pub format-wrong-spec : {M : Type 1} → statement M

@@ -1,9 +1,9 @@
 -- `vcf::record::alt_wrong` meets its contract: the fields are read where they begin. Assumes nothing.
-use mathlib.Core.Path.{_≡_, ap, sym, _∙_}
 use native.Mathlib.Omega.{arith}
 use borrow.Author.Needs.{needs}
 use lib.Dec.{lit<}
 use Rattle.vcf.proofs.FieldLaws.{field-within, read}
+use Rattle.vcf.proofs.RecordLaws.{alt-read}
 use Rattle.vcf.proofs.record.alt_wrong.Statement.{statement}
 use Rattle.vcf.proofs.record.alt_wrong.Tie as tie
 
@@ -21,9 +21,7 @@ alts-wrong-requires : tie.Need-alts-wrong-requires
 alts-wrong-requires c κs = search needs
 
 returns : tie.Need-returns
-returns c =
-    let f = read (c .before .before .before .before .args .line .now) (c .before .before .before .before .args .fields) (c .before .before .before .before .pre .1) in
-    cc (f .reference, f .alt)
+returns c = alt-read (c .before .before .before .before .args .line .now) (c .before .before .before .before .pre .1) (c .before .before .field-from .ensures) (c .before .field-from2 .ensures) (c .alts-wrong .ensures)
 
 pub alt-wrong-spec : {M : Type 1} → statement M
 alt-wrong-spec =

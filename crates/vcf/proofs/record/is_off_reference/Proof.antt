@@ -8,7 +8,7 @@ use lib.Dec.{lit<}
 use lib.ListN.{length, take, drop}
 use Rattle.bases.specs.Same.{sameBases?}
 use Rattle.vcf.proofs.FieldLaws.{field-within, read}
-use Rattle.vcf.proofs.RecordLaws.{off-past, off-within}
+use Rattle.vcf.proofs.RecordLaws.{off-past, off-within, reference-read}
 use Rattle.vcf.specs.Field.{field}
 use Rattle.vcf.proofs.record.is_off_reference.Statement.{statement}
 use Rattle.vcf.proofs.record.is_off_reference.Tie as tie
@@ -35,8 +35,7 @@ returns-2 : tie.Need-returns-2
 returns-2 c =
     let r = c .before .before .before .before .before .args .reference .now in
     let pos = c .before .before .before .before .before .args .pos in
-    let f = read (c .before .before .before .before .before .args .line .now) (c .before .before .before .before .before .args .fields) (c .before .before .before .before .before .pre .1) in
-    let e : c .before .before .field-from .result .now ≡ field 3 (c .before .before .before .before .before .args .line .now) = cc (f .reference) in
+    let e : c .before .before .field-from .result .now ≡ field 3 (c .before .before .before .before .before .args .line .now) = reference-read (c .before .before .before .before .before .args .line .now) (c .before .before .before .before .before .pre .1) (c .before .before .field-from .ensures) in
     sym (off-past r pos (field 3 (c .before .before .before .before .before .args .line .now)) (rw (← e) (omega arith)))
 
 add-end : tie.Need-add-end
@@ -59,8 +58,7 @@ returns-3 c =
     let l = c .before .before .before .before .before .before .before .args .line .now in
     let r = c .before .before .before .before .before .before .before .args .reference .now in
     let pos = c .before .before .before .before .before .before .before .args .pos in
-    let f = read l (c .before .before .before .before .before .before .before .args .fields) (c .before .before .before .before .before .before .before .pre .1) in
-    let e : c .before .before .before .before .field-from .result .now ≡ field 3 l = cc (f .reference) in
+    let e : c .before .before .before .before .field-from .result .now ≡ field 3 l = reference-read l (c .before .before .before .before .before .before .before .pre .1) (c .before .before .before .before .field-from .ensures) in
     let b = c .before .before .before .before .field-from .result .now in
     let n : pos - 1 + length b - (pos - 1) ≡ length b = omega arith in
     let same : c .same-bases .result ≡ sameBases? (field 3 l) (take (length (field 3 l)) (drop (pos - 1) r)) =
