@@ -1,5 +1,5 @@
 /*
- * driver [TIMES]   makes the card's calls as a C program makes them, on memory lent between guards.
+ * driver [TIMES | stack]   makes the card's calls as a C program makes them, on memory lent between guards.
  *
  * Reads cases from standard input up to its end and writes what each call answered and left, all numbers little-endian:
  *
@@ -11,49 +11,30 @@
  *               one byte, 1 where a byte changed that the call may not write, a lent one or one beside them, else 0;
  *               where the call may write, all bytes of the buffer that it may write, its last
  *
- * Each call is made TIMES times (once where it is not given), so that the cost of one can be counted from two runs.
+ * Each call is made TIMES times (once where it is not given), so that the cost of one can be counted from two runs. With `stack`
+ * each is made on a painted stack, and at the end a line on standard error for each call's number says: `stack`, the number, how
+ * many calls were answered and the most bytes of stack that one of them used, how many were refused and the most of those.
  * Exit status: 0 at the end of the input, 1 where that ends within a case, 2 for a case that cannot be made.
  */
 #include "../../include/card.h"
+#include "lent.h"
+#include "stack.h"
 
-/* What is used of the C library, declared here: its headers are not at hand for x86-64 on every machine. */
-void *mmap(void *, size_t, int, int, int, long);
-int mprotect(void *, size_t, int);
-long read(int, void *, size_t);
-long write(int, const void *, size_t);
-int memcmp(const void *, const void *, size_t);
-void *memcpy(void *, const void *, size_t);
-void *memset(void *, int, size_t);
-unsigned long strtoul(const char *, char **, int);
-_Noreturn void exit(int);
-
-enum { NO_ACCESS = 0, READ_WRITE = 3, PRIVATE_ANONYMOUS = 0x22 };
-
-enum {
-    ROOM = 1 << 17,     /* the most that a lent buffer and its guard bytes take */
-    FENCE = 1 << 16,    /* memory on either side that cannot be touched; a whole number of any machine's pages */
-    GUARD = 64,         /* bytes beside a lent buffer that must keep their value */
-    GUARD_VALUE = 0xA5,
-    LENT_MOST = 6,
-    NUMBERS_MOST = 2
-};
-
-#define AS_LEFT UINT32_MAX /* a count that says: the buffer that was lent last in this place */
-
-/* A lent buffer lies at one end of its room, against the fence, with guard bytes at its other side. */
-struct lent {
-    uint8_t *room;
-    uint8_t *bytes; /* none yet: 0 */
-    uint8_t *guard;
-    size_t count;
-    uint8_t before[ROOM]; /* what the bytes were */
-};
+enum { LENT_MOST = 6, NUMBERS_MOST = 2 };
 
 struct call {
     uint32_t lent, numbers;
     int writes; /* whether it may write the last of the lent buffers */
     card_answer (*make)(const struct lent *, const uint64_t *);
 };
+
+/* What this uses of a stack is what the driver itself uses. */
+static card_answer nothing(const struct lent *l, const uint64_t *n)
+{
+    (void)l;
+    (void)n;
+    return (card_answer){0, 0, 0, 0};
+}
 
 static card_answer allele(const struct lent *l, const uint64_t *n)
 {
@@ -81,7 +62,7 @@ static card_answer mark(const struct lent *l, const uint64_t *n)
 
 /* The calls by their number in a case. */
 static const struct call calls[] = {
-    {0, 0, 0, 0},
+    {0, 0, 0, nothing},
     {3, 2, 0, allele},
     {4, 0, 1, normal},
     {5, 0, 1, plan},
@@ -94,85 +75,47 @@ _Static_assert(sizeof(card_cluster) == 8, "a cluster is two numbers of four byte
 
 static struct lent lent[LENT_MOST];
 
-/* The next count bytes of the input, and whether there were any. */
-static int take(void *to, size_t count)
+/* A call to be made on the painted stack, and its answer. */
+struct made {
+    const struct call *call;
+    const uint64_t *numbers;
+    card_answer answer;
+};
+
+static void make(void *given)
 {
-    static uint8_t input[1 << 16];
-    static size_t at, end;
-    size_t taken = 0;
-    while (taken < count) {
-        if (at == end) {
-            long got = read(0, input, sizeof input);
-            if (got <= 0 && taken == 0)
-                return 0;
-            if (got <= 0)
-                exit(1);
-            at = 0;
-            end = (size_t)got;
-        }
-        size_t part = count - taken < end - at ? count - taken : end - at;
-        memcpy((uint8_t *)to + taken, input + at, part);
-        taken += part;
-        at += part;
-    }
-    return 1;
+    struct made *made = given;
+    made->answer = made->call->make(lent, made->numbers);
 }
 
-/* The same within a case, where the input must not end. */
-static void take_all(void *to, size_t count)
+/* Of each call, those that were answered and those that were refused: how many, and the most bytes of stack that one used. */
+static struct {
+    size_t count, most;
+} used[CALLS][2];
+
+static card_answer make_on_stack(const struct call *call, const uint64_t *numbers)
 {
-    if (count > 0 && !take(to, count))
-        exit(1);
+    struct made empty = {&calls[0], numbers, {0, 0, 0, 0}}, made = {call, numbers, {0, 0, 0, 0}};
+    size_t own = stack_used(make, &empty), bytes = stack_used(make, &made) - own;
+    int refused = made.answer.number != 0;
+    used[call - calls][refused].count++;
+    if (bytes > used[call - calls][refused].most)
+        used[call - calls][refused].most = bytes;
+    return made.answer;
 }
 
-static void give(const void *from, size_t count)
+static void tell_used(void)
 {
-    for (size_t given = 0; given < count;) {
-        long got = write(1, (const uint8_t *)from + given, count - given);
-        if (got <= 0)
-            exit(2);
-        given += (size_t)got;
-    }
-}
-
-static void make_room(struct lent *l)
-{
-    uint8_t *all = mmap(0, FENCE + ROOM + FENCE, READ_WRITE, PRIVATE_ANONYMOUS, -1, 0);
-    if (all == (void *)-1 || mprotect(all, FENCE, NO_ACCESS) || mprotect(all + FENCE + ROOM, FENCE, NO_ACCESS))
-        exit(2);
-    l->room = all + FENCE;
-}
-
-/* Reads a buffer of the case into its room, against the fence behind it or against that before it; or leaves it as it is. */
-static void lend(struct lent *l, int behind)
-{
-    uint32_t count;
-    take_all(&count, sizeof count);
-    if (count == AS_LEFT && l->bytes == 0)
-        exit(2);
-    if (count != AS_LEFT) {
-        if (count > ROOM - GUARD)
-            exit(2);
-        l->count = count;
-        l->bytes = behind ? l->room + ROOM - count : l->room;
-        l->guard = behind ? l->bytes - GUARD : l->bytes + count;
-        take_all(l->bytes, count);
-        memset(l->guard, GUARD_VALUE, GUARD);
-    }
-    memcpy(l->before, l->bytes, l->count);
-}
-
-static int has_changed(const struct lent *l, int may_write)
-{
-    int changed = !may_write && memcmp(l->before, l->bytes, l->count) != 0;
-    for (size_t i = 0; i < GUARD; i++)
-        changed |= l->guard[i] != GUARD_VALUE;
-    return changed;
+    for (size_t i = 1; i < CALLS; i++)
+        dprintf(2, "stack %zu %zu %zu %zu %zu\n", i, used[i][0].count, used[i][0].most, used[i][1].count, used[i][1].most);
 }
 
 int main(int argc, char **argv)
 {
-    unsigned long times = argc > 1 ? strtoul(argv[1], 0, 10) : 1;
+    int on_stack = argc > 1 && strcmp(argv[1], "stack") == 0;
+    unsigned long times = argc > 1 && !on_stack ? strtoul(argv[1], 0, 10) : 1;
+    if (on_stack)
+        make_stack();
     for (size_t i = 0; i < LENT_MOST; i++)
         make_room(&lent[i]);
 
@@ -193,7 +136,7 @@ int main(int argc, char **argv)
             uint8_t changed;
         } told = {{0, 0, 0, 0}, 0};
         for (unsigned long i = 0; i < times; i++)
-            told.answer = call->make(lent, numbers);
+            told.answer = on_stack ? make_on_stack(call, numbers) : call->make(lent, numbers);
         for (size_t i = 0; i < call->lent; i++)
             told.changed |= has_changed(&lent[i], call->writes && &lent[i] == last);
         /* At once, so that a call that faults is the first without an answer. */
@@ -201,5 +144,7 @@ int main(int argc, char **argv)
         if (call->writes)
             give(last->bytes, last->count);
     }
+    if (on_stack)
+        tell_used();
     return 0;
 }

@@ -11,7 +11,9 @@ use second::drive::case::{Call, Case};
 use second::drive::draw::{draw, Asked};
 use second::drive::frame::Frames;
 use second::drive::tally::Tally;
+use second::refusal::NO_ALLELE;
 use second::Refusal;
+use std::collections::BTreeSet;
 
 fn read(list: &Drawn) -> Result<usize, Refusal> {
     let read = second::read(&list.reference, &list.name, 1, &list.text());
@@ -82,6 +84,13 @@ fn every_answer_occurs_and_no_other_counts_as_the_same() {
         assert_eq!(same.rare_kinds(asked), [""; 0]);
         assert_eq!(changed.differences, 10_000);
     }
+}
+
+#[test]
+fn changes_by_bytes_come_upon_answers_and_every_refusal() {
+    let numbers: BTreeSet<u32> =
+        cases(Asked::Mutated).map(|case| case.expected.answer.number).collect();
+    assert_eq!(numbers, (0..=NO_ALLELE).collect());
 }
 
 #[test]

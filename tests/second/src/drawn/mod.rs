@@ -5,12 +5,14 @@
 //! - `repeats` draws repeats and entries in them
 //! - `list` draws one list in all its variety, `sizes` one of the sizes where the rules change, `pairs`
 //!   two lists on one reference
-//! - `fault` breaks a chosen row of the table in such a list, `damage` breaks any text anywhere
+//! - `fault` breaks a chosen row of the table in such a list, `damage` breaks any text anywhere, `mutate`
+//!   changes bytes of anything
 
 pub mod damage;
 pub mod fault;
 pub mod list;
 pub mod lists;
+pub mod mutate;
 pub mod pairs;
 pub mod random;
 pub mod repeats;

@@ -21,19 +21,26 @@ const OF_PLAN: [(u32, &str); 4] = [(0, "none"), (0, "one"), (0, "several"), (0, 
 const OF_MARK: [(u32, &str); 5] =
     [(0, "up to 9"), (0, "10 or 11"), (0, "12"), (0, "13"), (0, "above 13")];
 
-/// The kinds that a call can answer.
+/// The kinds that the calls of a run can answer.
 pub fn kinds(asked: Asked) -> Vec<Kind> {
     let (call, answered, of_the_call, lists): (_, &[(u32, &'static str)], &[u32], _) = match asked {
         Asked::Allele => ("allele", &OF_ALLELE, &[1, 18], 1),
         Asked::Normal => ("normal", &OF_NORMAL, &[1, 2], 1),
         Asked::Plan => ("plan", &OF_PLAN, &[1, 2], 2),
         Asked::Mark => ("mark", &OF_MARK, &[1, 2, 16, 17], 2),
+        Asked::Mutated => return kinds_of_small_lists(),
     };
     let answered = answered.iter().map(|(list, what)| (0, *list, *what));
     let of_the_call = of_the_call.iter().map(|number| (*number, 0, ""));
     let of_a_list = (1..=lists).flat_map(|list| (3..=15).map(move |number| (number, list, "")));
     let kind = |(number, list, what)| Kind { call, number, list, what };
     answered.chain(of_the_call).chain(of_a_list).map(kind).collect()
+}
+
+/// Those of every call, but for a plan of as many clusters as two lists can have entries.
+fn kinds_of_small_lists() -> Vec<Kind> {
+    let calls = [Asked::Allele, Asked::Normal, Asked::Plan, Asked::Mark];
+    calls.into_iter().flat_map(kinds).filter(|kind| kind.what != "full").collect()
 }
 
 impl Kind {

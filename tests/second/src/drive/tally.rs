@@ -6,8 +6,9 @@ use super::kind::{kinds, Kind};
 use std::collections::BTreeMap;
 use std::fmt::{self, Display};
 
-/// Each kind is to be answered at least once in so many calls.
+/// Each kind is to be answered at least once in so many calls, or in so many where bytes are changed blindly.
 const ONCE_IN: u64 = 2_000;
+const ONCE_IN_MUTATED: u64 = 100_000;
 
 /// So many differences are shown, the smallest ones.
 const SHOWN: usize = 3;
@@ -54,7 +55,8 @@ impl Tally {
         let kinds = kinds(asked);
         let count = |kind: &Kind| self.kinds.get(kind).copied().unwrap_or(0);
         let all: u64 = kinds.iter().map(count).sum();
-        let is_rare = |kind: &&Kind| count(kind) < all / ONCE_IN;
+        let once_in = if asked == Asked::Mutated { ONCE_IN_MUTATED } else { ONCE_IN };
+        let is_rare = |kind: &&Kind| count(kind) < all / once_in;
         kinds.iter().filter(is_rare).map(Kind::to_string).collect()
     }
 }

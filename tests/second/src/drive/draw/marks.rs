@@ -120,7 +120,7 @@ fn strings_from(entries: &[Entry], end: usize) -> usize {
 }
 
 /// Changes one of the records that are judged, or takes it away.
-fn change_plan(random: &mut Random, plan: &mut Vec<Cluster>, clusters: usize) {
+pub fn change_plan(random: &mut Random, plan: &mut Vec<Cluster>, clusters: usize) {
     let number = random.below(clusters);
     let by = *random.pick(&[1, u32::MAX, 1 << 8, 1 << 16, 1 << 31]);
     let record = &mut plan[number];

@@ -1,13 +1,15 @@
 //! Case after case from a seed, for one of the calls: on lists as drawn, with aimed faults and with
-//! blind damage.
+//! blind damage. Or for all of them, each with a few changes by bytes.
 //!
 //! - `spoil` breaks what is lent
 //! - `one_list` draws the calls of one list, `allele` and `normal`
 //! - `two_lists` draws `plan`, `marks` whole rows of calls of `mark` on one buffer
+//! - `mutated` draws rows of all calls, with bytes changed
 //! - `folders` draws what program compare reads
 
 pub mod folders;
 mod marks;
+mod mutated;
 mod one_list;
 mod spoil;
 mod two_lists;
@@ -22,6 +24,8 @@ pub enum Asked {
     Normal,
     Plan,
     Mark,
+    /// All four, with bytes changed in what they are lent.
+    Mutated,
 }
 
 impl Asked {
@@ -31,12 +35,13 @@ impl Asked {
             "normal" => Some(Asked::Normal),
             "plan" => Some(Asked::Plan),
             "mark" => Some(Asked::Mark),
+            "mutated" => Some(Asked::Mutated),
             _ => None,
         }
     }
 }
 
-/// Row `number` of cases of the run with this seed: a single one, but for `mark`.
+/// Row `number` of cases of the run with this seed: a single one, but for `mark` and `mutated`.
 pub fn draw(asked: Asked, seed: u64, number: u64) -> Vec<Case> {
     let random = &mut random_of(seed, number);
     match asked {
@@ -44,6 +49,7 @@ pub fn draw(asked: Asked, seed: u64, number: u64) -> Vec<Case> {
         Asked::Normal => vec![one_list::normal(random)],
         Asked::Plan => vec![two_lists::plan(random)],
         Asked::Mark => marks::row(random),
+        Asked::Mutated => mutated::row(random),
     }
 }
 

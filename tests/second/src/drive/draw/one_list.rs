@@ -42,25 +42,34 @@ fn one_list(random: &mut Random) -> OneList {
 /// An entry of the list and an allele of it, mostly.
 pub fn allele(random: &mut Random) -> Case {
     let OneList { reference, name, text, records } = one_list(random);
-    let mut entry = random.below(records.max(1));
-    let mut allele = *random.pick(&[0, 1, 1, 2]);
-    match random.below(8) {
-        0 => entry = beyond(random, entry, records),
-        1 => allele = beyond(random, allele, 3),
-        _ => {}
-    }
+    let (entry, allele) = any_allele(random, records);
     Case::new(&reference, &name, Call::Allele { text, entry, allele })
 }
 
-/// Room as long as the text, mostly: else longer, or shorter by one byte or by more.
+/// The numbers of an entry and of an allele, mostly such as there are in a list of so many records.
+pub fn any_allele(random: &mut Random, records: usize) -> (usize, usize) {
+    let entry = random.below(records.max(1));
+    let allele = *random.pick(&[0, 1, 1, 2]);
+    match random.below(8) {
+        0 => (beyond(random, entry, records), allele),
+        1 => (entry, beyond(random, allele, 3)),
+        _ => (entry, allele),
+    }
+}
+
 pub fn normal(random: &mut Random) -> Case {
     let OneList { reference, name, text, .. } = one_list(random);
+    let out = room_for(random, &text);
+    Case::new(&reference, &name, Call::Normal { text, out })
+}
+
+/// Room as long as the text, mostly: else longer, or shorter by one byte or by more.
+pub fn room_for(random: &mut Random, text: &[u8]) -> Vec<u8> {
     let length = match random.below(12) {
         0 => text.len().saturating_sub(1),
         1 => random.between(0, text.len()),
         2 | 3 => text.len() + random.between(1, 200),
         _ => text.len(),
     };
-    let out = any_room(random, length);
-    Case::new(&reference, &name, Call::Normal { text, out })
+    any_room(random, length)
 }
