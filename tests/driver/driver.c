@@ -112,8 +112,8 @@ static void tell_used(void)
 
 int main(int argc, char **argv)
 {
-    int on_stack = argc > 1 && strcmp(argv[1], "stack") == 0;
-    unsigned long times = argc > 1 && !on_stack ? strtoul(argv[1], 0, 10) : 1;
+    int on_stack = argc > 1 && argv[1][0] == 's';
+    unsigned long times = on_stack ? 0 : argc > 1 ? strtoul(argv[1], 0, 10) : 1;
     if (on_stack)
         make_stack();
     for (size_t i = 0; i < LENT_MOST; i++)
@@ -135,8 +135,10 @@ int main(int argc, char **argv)
             card_answer answer;
             uint8_t changed;
         } told = {{0, 0, 0, 0}, 0};
+        if (on_stack)
+            told.answer = make_on_stack(call, numbers);
         for (unsigned long i = 0; i < times; i++)
-            told.answer = on_stack ? make_on_stack(call, numbers) : call->make(lent, numbers);
+            told.answer = call->make(lent, numbers);
         for (size_t i = 0; i < call->lent; i++)
             told.changed |= has_changed(&lent[i], call->writes && &lent[i] == last);
         /* At once, so that a call that faults is the first without an answer. */

@@ -10,7 +10,6 @@ long write(int, const void *, size_t);
 int memcmp(const void *, const void *, size_t);
 void *memcpy(void *, const void *, size_t);
 void *memset(void *, int, size_t);
-int strcmp(const char *, const char *);
 unsigned long strtoul(const char *, char **, int);
 int dprintf(int, const char *, ...);
 _Noreturn void exit(int);

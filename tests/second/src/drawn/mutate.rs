@@ -1,4 +1,5 @@
-//! Changes by bytes, to anything that is lent. They know lines and bytes that mean something, and no other rule.
+//! Changes by bytes, to anything that is lent. They know lines and bytes that mean something, and no
+//! other rule.
 
 use super::random::Random;
 use std::ops::Range;
@@ -72,8 +73,8 @@ fn change_a_digit(random: &mut Random, bytes: &mut [u8], place: usize) {
     }
 }
 
-/// The part stands again behind itself: once, or so often that a line is the 513th record, that a line is too long, or that
-/// all is too long; or just not.
+/// The part stands again behind itself: once, or so often that a line is the 513th record, that a line
+/// is too long, or that all is too long; or just not.
 fn repeat(random: &mut Random, bytes: &mut Vec<u8>, part: Range<usize>) {
     let is_line = is_end(&bytes[part.end - 1]);
     let times = match random.below(100) {

@@ -6,7 +6,8 @@ use super::kind::{kinds, Kind};
 use std::collections::BTreeMap;
 use std::fmt::{self, Display};
 
-/// Each kind is to be answered at least once in so many calls, or in so many where bytes are changed blindly.
+/// Each kind is to be answered at least once in so many calls; or in so many where bytes are changed,
+/// which does not aim at any.
 const ONCE_IN: u64 = 2_000;
 const ONCE_IN_MUTATED: u64 = 100_000;
 

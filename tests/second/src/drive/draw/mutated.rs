@@ -1,4 +1,5 @@
-//! A row of calls on two small lists that are accepted, each with one to four changes by bytes in what it is lent.
+//! A row of calls on two small lists that are accepted, each with one to four changes by bytes in what
+//! it is lent.
 
 use super::marks::change_plan;
 use super::one_list::{any_allele, room_for};
