@@ -14,8 +14,7 @@
  *   - Through a pointer to const the card only reads. Such buffers may overlap one another.
  *   - A buffer that the card writes overlaps no other buffer of the call.
  *   - Nothing else writes to a lent buffer until the call returns, and nothing else reads one that the card writes.
- *   - The thread has enough stack: 256 KiB will do. card_mark took 143,072 bytes of it where that was measured, with a cluster
- *     of twelve entries.
+ *   - The thread has enough stack: 256 KiB will do. docs/BENCH.md says what each call was seen to take.
  *
  * All else is the card's part: bad input is refused, and a refused call changes no lent byte.
  */
