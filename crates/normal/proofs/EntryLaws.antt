@@ -2,7 +2,9 @@
 --     part-length     the length of a part of a text
 --     twin-cuts       an ALT that stands twice changes nothing
 --     entry-three     what is cut off an entry, by REF, the first ALT and the last
+--     entry-cuts-are  the same, by where it starts and the bytes that are read
 --     Bounds, bounds  how much that is at most
+--     spelled-is      what is left of an ALT, from its numbers
 --     normal-entry-of the normal form of an entry, from its numbers
 -- Assumes nothing.
 use mathlib.Core.Bool.{Bool, true, false, _&&_}
@@ -73,6 +75,11 @@ pub entry-three : (reference text : List ℕ) (e : Entry) → cutsOf (basesOf re
 entry-three reference text e =
     last-three (basesOf reference) (startOf e) (basesOf (refBytes reference e)) text (e .first) (e .second) (eqb (e .alts) 2)
 
+pub entry-cuts-are : (reference text : List ℕ) (e : Entry) {s : ℕ} {a b c : List ℕ} {l : Part} {k : Cuts} → s ≡ startOf e
+    → a ≡ bytesOf reference (part s (e .reference .len)) → b ≡ bytesOf text (e .first) → l ≡ lastAlt e → c ≡ bytesOf text l
+    → k ≡ cutsOf (basesOf reference) (three s (basesOf a) (basesOf b) (basesOf c)) → k ≡ cutsOf (basesOf reference) (formOf reference text e)
+entry-cuts-are reference text e es ea eb el ec ek = let t = entry-three reference text e in cc
+
 -- How much is cut off an entry at most.
 pub record Bounds (k : Cuts) (e : Entry) : Type 0 where
   pub some : 1 ≤ k .shortest
@@ -101,6 +108,10 @@ bounds reference text e st k h =
       back = omega (arith, run-le (backAlike? (basesOf reference) f) (startOf e + shortest (f .ref) (f .alts) - 1));
       front = omega (arith, run-le (frontAlike? f) (shortest (f .ref) (f .alts) - (cutOf (basesOf reference) f + 1)));
     }
+
+pub spelled-is : (k : Cuts) (p : Part) {front at len : ℕ} → front ≡ takenIn k - (k .back - p .len) → at ≡ p .at + k .front → len ≡ p .len - (k .back + k .front)
+    → _≡_ {A = Spelled} record { front = front; own = part at len } (spelled k p)
+spelled-is k p ef ea el = cc
 
 pub normal-entry-of : (reference text : List ℕ) (e : Entry) (s : ℕ) (k : Cuts) (g : ℕ) (a b : Spelled) → s ≡ startOf e → k ≡ cutsOf (basesOf reference) (formOf reference text e) → g ≡ takenIn k → a ≡ spelled k (e .first) → b ≡ spelled k (lastAlt e) → record { start = record { 0 = s + k .front - g }; span = s + e .reference .len - k .back - (s + k .front - g); first = a; second = b } ≡ normalEntry reference text e
 unfolding normalEntry

@@ -3,6 +3,7 @@
 --     extended-length, extended-front, extended-own
 --                          the allele with all that stands before it: its length, and base by base
 --     back-own, back-front the base k before its last: its own, or of the reference
+--     own-read, front-read the same, by the letter that is read there
 --     kept-length          what is left of that
 --     between-length, between-first, between-last
 --                          what is left from p on: its length, its first base and its last
@@ -14,6 +15,8 @@ use Prim.Native.Nat.{ℕ, _+_, _-_, _≤_, _<_}
 use native.Mathlib.Omega.{arith}
 use lib.ListN.{length, getD, take, drop, length-append, length-drop, List·getD-append}
 use lib.Seq.{length-take-le, getD-append-add, getD-drop, getD-take, ext-getD}
+use Rattle.bases.specs.Letter.{letterOf, basesOf}
+use Rattle.bases.proofs.LetterLaws.{bases-length, bases-at}
 use Rattle.normal.specs.Form.{first, last}
 use Rattle.normal.specs.Cut.{backAt, between}
 
@@ -80,3 +83,19 @@ module _ (r : List ℕ) (s : ℕ) (fits : s ≤ length r) (a b : List ℕ) (q : 
 
       at : (j : ℕ) → j < q → getD (drop (s + length a - q) (take s r ++ a)) j 0 ≡ getD (drop (s + length b - q) (take s r ++ b)) j 0
       at j l = read a ha j l ∙ h (q - (j + 1)) (omega arith) ∙ sym (read b hb j l)
+
+module _ (r : List ℕ) (s : ℕ) (fits : s ≤ length r) (a : List ℕ) (k : ℕ) where
+  fits-bases : s ≤ length (basesOf r)
+  fits-bases = rw bases-length fits
+
+  pub own-read : {x : ℕ} → k < length a → x ≡ letterOf (getD a (length a - k - 1) 0) → x ≡ backAt (basesOf r) s k (basesOf a)
+  own-read h e =
+      let l = bases-length a in
+      let b = back-own (basesOf r) s fits-bases (basesOf a) k (omega arith) in
+      cc (bases-at a (length a - k - 1))
+
+  pub front-read : {x : ℕ} → length a ≤ k → k < s + length a → x ≡ letterOf (getD r (s - (k - length a) - 1) 0) → x ≡ backAt (basesOf r) s k (basesOf a)
+  front-read h i e =
+      let l = bases-length a in
+      let b = back-front (basesOf r) s fits-bases (basesOf a) k (omega arith) (omega arith) in
+      cc (bases-at r (s - (k - length a) - 1))

@@ -1,10 +1,6 @@
 -- `normal::cut::back_at` meets its contract: the base is the allele's own, or stands before it on the reference. Assumes nothing.
-use Prim.Native.Nat.{_-_}
 use native.Mathlib.Omega.{arith}
-use lib.ListN.{length}
-use Rattle.bases.specs.Letter.{basesOf}
-use Rattle.bases.proofs.LetterLaws.{bases-length, bases-at}
-use Rattle.normal.proofs.ExtendedLaws.{back-own, back-front}
+use Rattle.normal.proofs.ExtendedLaws.{own-read, front-read}
 use borrow.Author.Needs.{needs}
 use Rattle.normal.proofs.cut.back_at.Statement.{statement}
 use Rattle.normal.proofs.cut.back_at.Tie as tie
@@ -38,23 +34,13 @@ letter-requires-2 c κs = search needs
 
 returns : tie.Need-returns
 returns c =
-    let r = c .before .before .before .before .before .args .reference .now in
-    let s = c .before .before .before .before .before .args .start in
-    let a = c .before .before .before .before .before .args .allele .now in
-    let k = c .before .before .before .before .before .args .k in
-    let la = bases-length a in
-    let back = back-own (basesOf r) s (rw bases-length (omega arith)) (basesOf a) k (omega arith) in
-    cc (bases-at a (length a - k - 1))
+    let x = c .before .before .before .before .before .args in
+    own-read (x .reference .now) (x .start) (c .before .before .before .before .before .pre .0) (x .allele .now) (x .k) (omega arith) (c .letter .ensures)
 
 returns-2 : tie.Need-returns-2
 returns-2 c =
-    let r = c .before .before .before .before .before .args .reference .now in
-    let s = c .before .before .before .before .before .args .start in
-    let a = c .before .before .before .before .before .args .allele .now in
-    let k = c .before .before .before .before .before .args .k in
-    let la = bases-length a in
-    let back = back-front (basesOf r) s (rw bases-length (omega arith)) (basesOf a) k (omega arith) (omega arith) in
-    cc (bases-at r (s - (k - length a) - 1))
+    let x = c .before .before .before .before .before .args in
+    front-read (x .reference .now) (x .start) (c .before .before .before .before .before .pre .0) (x .allele .now) (x .k) (omega arith) (omega arith) (c .letter2 .ensures)
 
 pub back-at-spec : {M : Type 1} → statement M
 back-at-spec =

@@ -41,7 +41,7 @@ returns c =
     let d = basesOf (x .c .now) in
     let q = c .before .before .before .before .loop .q in
     sym (run-is (backAlike? r (three (x .start) a b d)) (x .most) q (omega arith) (c .before .before .before .before .loop .inv .1)
-    (λ l t. c .if1 .taken (cc (alike-first (backAt r (x .start) q) a b d t))))
+    (λ l t. c .if1 .taken (alike-first (backAt r (x .start) q) a b d (c .before .before .back-at .ensures) (c .before .back-at2 .ensures) t)))
 
 back-at-requires-3 : tie.Need-back-at-requires-3 Inv-loop μ-loop
 back-at-requires-3 c κs = (omega arith, omega arith)
@@ -55,7 +55,7 @@ returns-2 c =
     let d = basesOf (x .c .now) in
     let q = c .before .before .before .before .before .before .loop .q in
     sym (run-is (backAlike? r (three (x .start) a b d)) (x .most) q (omega arith) (c .before .before .before .before .before .before .loop .inv .1)
-    (λ l t. c .if2 .taken (cc (alike-second (backAt r (x .start) q) a b d t))))
+    (λ l t. c .if2 .taken (alike-second (backAt r (x .start) q) a b d (c .before .before .before .before .back-at .ensures) (c .before .back-at3 .ensures) t)))
 
 add-q : tie.Need-add-q Inv-loop μ-loop
 add-q c = omega arith
@@ -73,7 +73,7 @@ loop-again c =
     let q = c .before .before .before .before .before .before .loop .q in (
       omega arith,
       below-more (λ i. T (backAlike? r (three (x .start) a b d) i)) q (c .before .before .before .before .before .before .loop .inv .1)
-          (alike (backAt r (x .start) q) a b d (cc) (cc)),
+          (alike (backAt r (x .start) q) a b d (c .before .before .before .before .back-at .ensures) (c .before .before .before .back-at2 .ensures) (c .before .back-at3 .ensures) (c .before .before .if1 .left) (c .if2 .left)),
     )
 
 returns-3 : tie.Need-returns-3 Inv-loop μ-loop

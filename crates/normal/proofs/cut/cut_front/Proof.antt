@@ -9,10 +9,9 @@ use borrow.Author.Count.{below-more}
 use lib.Dec.{T}
 use lib.ListN.{getD}
 use Rattle.bases.specs.Letter.{basesOf}
-use Rattle.bases.proofs.LetterLaws.{bases-at}
 use Rattle.normal.specs.Cut.{frontAlike?}
 use Rattle.normal.specs.Spelled.{three}
-use Rattle.normal.proofs.AlikeLaws.{alike, alike-first, alike-second}
+use Rattle.normal.proofs.AlikeLaws.{letter-at, alike, alike-first, alike-second}
 use Rattle.normal.proofs.RunLaws.{run-is}
 use Rattle.normal.proofs.cut.cut_front.Statement.{statement}
 use Rattle.normal.proofs.cut.cut_front.Tie as tie
@@ -49,7 +48,7 @@ returns c =
     let d = x .c .now in
     let t = c .before .before .before .before .before .before .loop .t in
     sym (run-is (frontAlike? (three 0 (basesOf a) (basesOf b) (basesOf d))) (x .most) t (omega arith) (c .before .before .before .before .before .before .loop .inv .1)
-    (λ l h. c .if1 .taken (cc (alike-first (λ y. getD y t 0) (basesOf a) (basesOf b) (basesOf d) h, bases-at a t, bases-at b t))))
+    (λ l h. c .if1 .taken (alike-first (λ y. getD y t 0) (basesOf a) (basesOf b) (basesOf d) (letter-at a t (c .before .before .before .letter .ensures)) (letter-at b t (c .before .letter2 .ensures)) h)))
 
 shared-slice-read-letter-3 : tie.Need-shared-slice-read-letter-3 Inv-loop μ-loop
 shared-slice-read-letter-3 c = omega arith
@@ -65,7 +64,7 @@ returns-2 c =
     let d = x .c .now in
     let t = c .before .before .before .before .before .before .before .before .before .loop .t in
     sym (run-is (frontAlike? (three 0 (basesOf a) (basesOf b) (basesOf d))) (x .most) t (omega arith) (c .before .before .before .before .before .before .before .before .before .loop .inv .1)
-    (λ l h. c .if2 .taken (cc (alike-second (λ y. getD y t 0) (basesOf a) (basesOf b) (basesOf d) h, bases-at a t, bases-at d t))))
+    (λ l h. c .if2 .taken (alike-second (λ y. getD y t 0) (basesOf a) (basesOf b) (basesOf d) (letter-at a t (c .before .before .before .before .before .before .letter .ensures)) (letter-at d t (c .before .letter3 .ensures)) h)))
 
 add-t : tie.Need-add-t Inv-loop μ-loop
 add-t c = omega arith
@@ -82,7 +81,7 @@ loop-again c =
     let t = c .before .before .before .before .before .before .before .before .before .loop .t in (
       omega arith,
       below-more (λ i. T (frontAlike? (three 0 (basesOf a) (basesOf b) (basesOf d)) i)) t (c .before .before .before .before .before .before .before .before .before .loop .inv .1)
-          (alike (λ y. getD y t 0) (basesOf a) (basesOf b) (basesOf d) (cc (bases-at a t, bases-at b t)) (cc (bases-at a t, bases-at d t))),
+          (alike (λ y. getD y t 0) (basesOf a) (basesOf b) (basesOf d) (letter-at a t (c .before .before .before .before .before .before .letter .ensures)) (letter-at b t (c .before .before .before .before .letter2 .ensures)) (letter-at d t (c .before .letter3 .ensures)) (c .before .before .before .if1 .left) (c .if2 .left)),
     )
 
 returns-3 : tie.Need-returns-3 Inv-loop μ-loop

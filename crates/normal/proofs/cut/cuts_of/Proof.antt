@@ -1,13 +1,12 @@
 -- `normal::cut::cuts_of` meets its contract: the two loops run as far as the closed form lets them. Assumes nothing.
-use mathlib.Core.List.{[], _∷_}
-use mathlib.Core.Path.{_≡_, ap, _∙_}
-use Prim.Native.Nat.{ℕ, _+_, _-_}
+use mathlib.Core.Path.{_≡_}
+use Prim.Native.Nat.{_-_}
 use native.Mathlib.Omega.{arith}
 use borrow.Author.Needs.{needs}
 use Rattle.bases.specs.Letter.{basesOf}
-use Rattle.normal.specs.Cut.{run, shortest, backAlike?, frontAlike?, cutOf, trimOf}
+use Rattle.normal.specs.Cut.{run, frontAlike?}
 use Rattle.normal.specs.Spelled.{three}
-use Rattle.normal.proofs.AlikeLaws.{three-shortest}
+use Rattle.normal.proofs.AlikeLaws.{cuts-are}
 use Rattle.normal.proofs.RunLaws.{run-le}
 use Rattle.normal.proofs.cut.cuts_of.Statement.{statement}
 use Rattle.normal.proofs.cut.cuts_of.Tie as tie
@@ -44,33 +43,23 @@ cut-front-requires c κs = search needs
 returns : tie.Need-returns
 returns c =
     let x = c .before .before .before .before .before .before .before .before .before .args in
-    let a = x .a .now in
-    let b = x .b .now in
-    let d = x .c .now in
-    let r = basesOf (x .reference .now) in
-    let f = three (x .start) (basesOf a) (basesOf b) (basesOf d) in
-    let m = c .before .before .before .shorter2 .result in
-    let q = c .before .before .cut-back .result in
-    let em : m ≡ shortest (basesOf a) (basesOf b ∷ basesOf d ∷ []) = cc (three-shortest a b d) in
-    let eq : q ≡ cutOf r f = c .before .before .cut-back .ensures ∙ ap (λ (n : ℕ). run (backAlike? r f) (x .start + n - 1)) em in
-    let n : m - q - 1 ≡ m - (q + 1) = omega arith in
-    let et : c .cut-front .result ≡ trimOf f q = c .cut-front .ensures ∙ ap (run (frontAlike? f)) n ∙ ap (λ (k : ℕ). run (frontAlike? f) (k - (q + 1))) em in
-    cc
+    cuts-are (basesOf (x .reference .now)) (x .start) (x .a .now) (x .b .now) (x .c .now)
+    (c .before .before .before .before .shorter .ensures)
+    (c .before .before .before .shorter2 .ensures)
+    (c .before .before .cut-back .ensures)
+    (c .cut-front .ensures)
 
 returns-2 : tie.Need-returns-2
 returns-2 c =
     let x = c .before .before .before .before .before .before .before .before .args in
-    let a = x .a .now in
-    let b = x .b .now in
-    let d = x .c .now in
-    let r = basesOf (x .reference .now) in
-    let f = three (x .start) (basesOf a) (basesOf b) (basesOf d) in
-    let m = c .before .before .shorter2 .result in
-    let q = c .before .cut-back .result in
-    let em : m ≡ shortest (basesOf a) (basesOf b ∷ basesOf d ∷ []) = cc (three-shortest a b d) in
-    let eq : q ≡ cutOf r f = c .before .cut-back .ensures ∙ ap (λ (n : ℕ). run (backAlike? r f) (x .start + n - 1)) em in
-    let et : trimOf f q ≡ 0 = omega (arith, run-le (frontAlike? f) (shortest (basesOf a) (basesOf b ∷ basesOf d ∷ []) - (q + 1))) in
-    cc
+    let f = three (x .start) (basesOf (x .a .now)) (basesOf (x .b .now)) (basesOf (x .c .now)) in
+    let n = c .before .before .shorter2 .result - c .before .cut-back .result - 1 in
+    let none : 0 ≡ run (frontAlike? f) n = omega (arith, run-le (frontAlike? f) n) in
+    cuts-are (basesOf (x .reference .now)) (x .start) (x .a .now) (x .b .now) (x .c .now)
+    (c .before .before .before .shorter .ensures)
+    (c .before .before .shorter2 .ensures)
+    (c .before .cut-back .ensures)
+    none
 
 pub cuts-of-spec : {M : Type 1} → statement M
 cuts-of-spec =

@@ -5,7 +5,7 @@ use lib.ListN.{length}
 use Rattle.vcf.specs.declared.entry.Part.{Part}
 use Rattle.vcf.specs.Entry.{part}
 use Rattle.normal.specs.Spelled.{lastAlt}
-use Rattle.normal.proofs.EntryLaws.{part-length, entry-three}
+use Rattle.normal.proofs.EntryLaws.{part-length, entry-cuts-are}
 use borrow.Author.Needs.{needs}
 use Rattle.normal.proofs.entry.entry_cuts.Statement.{statement}
 use Rattle.normal.proofs.entry.entry_cuts.Tie as tie
@@ -45,8 +45,12 @@ cuts-of-requires c κs =
 returns : tie.Need-returns
 returns c =
     let x = c .before .before .before .before .before .before .before .before .args in
-    let t = entry-three (x .reference .now) (x .text .now) (x .entry) in
-    cc
+    entry-cuts-are (x .reference .now) (x .text .now) (x .entry) (c .before .before .before .before .before .before .before .before .pre .1)
+    (c .before .before .before .before .bytes-of .ensures)
+    (c .before .before .before .bytes-of2 .ensures)
+    (c .before .before .last-alt .ensures)
+    (c .before .bytes-of3 .ensures)
+    (c .cuts-of .ensures)
 
 pub entry-cuts-spec : {M : Type 1} → statement M
 entry-cuts-spec =

@@ -1,9 +1,10 @@
 -- `normal::entry::spelled_part` meets its contract: its two arms are the two cases of what is left. Assumes nothing.
-use mathlib.Core.Path.{_≡_}
+use mathlib.Core.Path.{_≡_, refl, _∙_}
 use Prim.Native.Nat.{_+_, _-_}
 use native.Mathlib.Omega.{arith}
 use borrow.Author.Needs.{needs}
 use Rattle.normal.specs.Spelled.{takenIn}
+use Rattle.normal.proofs.EntryLaws.{spelled-is}
 use Rattle.normal.proofs.entry.spelled_part.Statement.{statement}
 use Rattle.normal.proofs.entry.spelled_part.Tie as tie
 use Rattle.normal.proofs.entry.spelled_part.Reads as reads
@@ -23,7 +24,7 @@ returns c =
     let front : p .len - k .shortest + 1 ≡ takenIn k - (k .back - p .len) = omega arith in
     let at : p .at ≡ p .at + k .front = omega arith in
     let len : 0 ≡ p .len - (k .back + k .front) = omega arith in
-    cc
+    spelled-is k p front at len
 
 taken-in-requires : tie.Need-taken-in-requires
 taken-in-requires c κs = search needs
@@ -43,7 +44,7 @@ returns-2 c =
     let p = c .before .before .before .before .before .before .before .before .before .args .part in
     let front : takenIn k ≡ takenIn k - (k .back - p .len) = omega arith in
     let len : p .len - k .back - k .front ≡ p .len - (k .back + k .front) = omega arith in
-    cc
+    spelled-is k p (c .before .before .before .before .before .taken-in .ensures ∙ front) refl len
 
 pub spelled-part-spec : {M : Type 1} → statement M
 spelled-part-spec =
