@@ -29,6 +29,7 @@ use Rattle.matching.specs.Answer.{byteOf, arrayOf, answerOf, theseChoice
 use Rattle.matching.specs.Best.{score}
 use Rattle.matching.specs.Card.{rankOf, cardScoring}
 use Rattle.matching.specs.Search.{before?, first?, beats?, better}
+use Rattle.matching.proofs.TopLaws.{Of}
 
 pub before-less : (m n : ℕ) (t : Bool) → m < n → before? m n t ≡ true
 before-less m n t h = simp (lt-ltb m n h)
@@ -144,8 +145,7 @@ module _ (n : ℕ) (a b : Best) where
 
 -- The answer has n choices, or is none.
 abbrev pub Long : ℕ → Option (List Choice) → Type 0
-Long n none = Unit {0}
-Long n (some φ) = length φ ≡ n
+Long n o = Of (λ (φ : List Choice). length φ ≡ n) o
 
 pub better-answer : (xs : List Variant) (n : ℕ) (o p : Option (List Choice)) → Long n o → Long n p
     → betterOf n (answerOf xs o) (answerOf xs p) ≡ answerOf xs (better rankOf (score cardScoring xs) o p)

@@ -15,3 +15,4 @@ pub mod MidwayLaws
 pub mod OrderLaws
 pub mod SearchLaws
 pub mod StepLaws
+pub mod TopLaws

@@ -33,6 +33,8 @@ use Rattle.matching.proofs.AnswerLaws.{array-more, array-out, array-cho
 use Rattle.matching.proofs.CardBest.{all-allowed}
 use Rattle.matching.proofs.CutLaws.{score-append}
 use Rattle.matching.proofs.LegalLaws.{allowed-iff, apart-iff}
+use Rattle.matching.proofs.StepLaws.{counts-few}
+use Rattle.matching.proofs.TopLaws.{score-few}
 
 pub keep-words : (xs : List Variant) (φ : List Choice) → Kept xs φ ↔ ((j : Bool) (h : Copy) → Chain 0 (edits cardRules j h xs φ))
 keep-words xs φ =
@@ -73,24 +75,13 @@ unfolding score
 score-none [] = refl
 score-none (x ∷ xs) = refl
 
-counts-few : (c : Choice) → counts c ≤ 1
-counts-few plus = omega arith
-counts-few minus = omega arith
-counts-few out = omega arith
-
-score-few : (xs : List Variant) (φ : List Choice) → score cardScoring xs φ ≤ length φ
-unfolding score
-score-few [] φ = omega arith
-score-few (x ∷ xs) [] = omega arith
-score-few (x ∷ xs) (c ∷ φ) = omega (arith, score-few xs φ, counts-few c)
-
 counts-one : (c : Choice) → T (chosen? c) → counts c ≡ 1
 counts-one plus t = refl
 counts-one minus t = refl
 counts-one out t = absurd t
 
 pub made-few : (xs : List Variant) (φ : List Choice) (choices : List ℕ) (ends : Ends) (total : ℕ) → Made xs φ choices ends total → total ≤ length φ
-made-few xs φ choices ends total m = omega (arith, m .counted, score-few xs φ)
+made-few xs φ choices ends total m = omega (arith, m .counted, score-few cardScoring (λ x. counts-few) xs φ)
 
 pub made-reads : (xs : List Variant) (φ : List Choice) (choices : List ℕ) (ends : Ends) (total n : ℕ) → Made xs φ choices ends total → length φ ≡ n → choicesFrom choices 0 n ≡ φ
 made-reads xs φ choices ends total n m e = rw (m .array) (array-choices φ n e)

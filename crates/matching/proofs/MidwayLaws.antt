@@ -2,19 +2,20 @@
 --     made-all                    with no entry left the choices made do not overlap
 --     search-found, search-none   and they are the answer where they are legal, or there is none
 --     made-skipped, made-taken    what is carried after the entry is left out, and after it is chosen
---     made-total                  the score so far is below n
+--     made-total                  the score so far and the entries left are no more than n
+--     search-all                  the answer is that for `+`, where that chooses every entry left
+--     search-but-one              it is the better of those for `+` and `-`, where that leaves out one of the entries left at the most
 --     search-taken, search-skipped
---                                 the answer is the better of those for the three choices, or, where the entry overlaps an earlier one, that for leaving it out
---     made-start, search-start    what is carried at the start, and that the search from there on answers the best choices
+--                                 it is the better of those for the three choices, or, where the entry overlaps an earlier one, that for leaving it out
 -- Assumes nothing.
 use mathlib.Core.Bool.{Bool, true, false, cond}
 use mathlib.Core.List.{List, [], _∷_, _++_}
-use mathlib.Core.Option.{Option, none, some}
+use mathlib.Core.Option.{none, some}
 use mathlib.Core.Path.{_≡_, sym, ap, ap₂, _∙_, subst}
 use Prim.Native.Nat.{ℕ, suc, _+_, _-_, _≤_, _<_}
 use native.Mathlib.Omega.{arith}
 use lib.Dec.{T}
-use lib.ListN.{length, set, replicate, length-append}
+use lib.ListN.{length, set, length-append}
 use Rattle.bases.specs.Letter.{basesOf}
 use Rattle.bases.proofs.TestLaws.{is-true}
 use Rattle.donors.specs.declared.table.Row.{Row}
@@ -25,15 +26,12 @@ use Rattle.matching.specs.declared.ends.Ends.{Ends}
 use Rattle.matching.specs.Answer.{byteOf, nothingFound, answerOf, betterOf}
 use Rattle.matching.specs.Best.{score}
 use Rattle.matching.specs.BestOf.{keep?}
-use Rattle.matching.specs.Card.{rankOf, cardScoring, cardFinite}
-use Rattle.matching.specs.Made.{Kept, cardLegal?, cardSearch, answerFrom, bestAnswer, endBy, endsAfter, Made}
-use Rattle.matching.specs.Search.{better}
-use Rattle.matching.proofs.AnswerLaws.{choices-length, Long, better-answer}
-use Rattle.matching.proofs.BestOfLaws.{search-any}
+use Rattle.matching.specs.Card.{cardFinite}
+use Rattle.matching.specs.Made.{Kept, cardLegal?, answerFrom, endBy, endsAfter, Made}
+use Rattle.matching.proofs.AnswerLaws.{choices-length}
 use Rattle.matching.proofs.EntryLaws.{entries, entryAt, entries-length, entries-at}
-use Rattle.matching.proofs.LegalLaws.{legal-keeps}
-use Rattle.matching.proofs.MadeLaws.{made-none, made-few, made-reads, made-out, made-chosen, dropped}
-use Rattle.matching.proofs.StepLaws.{cond-long, better-long, search-stop, search-step, search-long}
+use Rattle.matching.proofs.MadeLaws.{made-few, made-reads, made-out, made-chosen, dropped}
+use Rattle.matching.proofs.StepLaws.{search-stop, search-three, search-top, search-near}
 
 module _ (reference first second t : List ℕ) where
   -- the entries that the search is over
@@ -118,6 +116,31 @@ module _ (reference first second t : List ℕ) where
     pub made-skipped : Made (all n) (choicesFrom choices 0 (n - (left - 1))) choices ends total
     made-skipped = rw skipped-reads out-made
 
+    pub made-total : total + left ≤ n
+    made-total = omega (arith, made-few (all n) φ choices ends total m, choices-length choices 0 (n - left))
+
+    -- the answer from the choices made on, and that below one choice more
+    abbrev Answer : Best → Type 0
+    Answer v = v ≡ answerFrom (basesOf reference) (all n) left φ
+
+    abbrev below : List Choice → Best
+    below θ = answerFrom (basesOf reference) (all n) (left - 1) θ
+
+    answer : (v : Best) → v ≡ answerFrom (basesOf reference) (all n) (suc (left - 1)) φ → Answer v
+    answer v e = let k : suc (left - 1) ≡ left = omega arith in e ∙ ap (λ (k : ℕ). answerFrom (basesOf reference) (all n) k φ) k
+
+    whole : length φ + suc (left - 1) ≡ n
+    whole = omega (arith, choices-length choices 0 (n - left))
+
+    out-kept : keep? cardRules cardFinite (all n) (more out) ≡ true
+    out-kept = is-true (keep? cardRules cardFinite (all n) (more out)) (out-made .kept)
+
+    taken-kept : (c : Choice) → T (chosen? c) → endBy ends (row .first) ≤ row .start → keep? cardRules cardFinite (all n) (more c) ≡ true
+    taken-kept c u b = is-true _ (taken-made c u b .kept)
+
+    taken-not : (c : Choice) → T (chosen? c) → row .start < endBy ends (row .first) → keep? cardRules cardFinite (all n) (more c) ≡ false
+    taken-not c u b = rw at (dropped us (entryAt reference first second t (n - left)) vs φ long c u (omega (arith, midway .ended (row .first))))
+
     -- what the code found of the row
     module _ (r : Row) (end : ℕ) (is-row : r ≡ row) (is-end : end ≡ endBy ends (r .first)) where
       free : end ≤ r .start → endBy ends (row .first) ≤ row .start
@@ -131,67 +154,36 @@ module _ (reference first second t : List ℕ) where
           → Made (all n) (choicesFrom next 0 (n - (left - 1))) next after (total + 1)
       made-taken c next after u e f b = rw (e, f, is-row, taken-reads c u (free b)) (taken-made c u (free b))
 
-    pub made-total : total < n
-    made-total = omega (arith, made-few (all n) φ choices ends total m, choices-length choices 0 (n - left))
+      -- the entry may be chosen, and x is the answer below `+`
+      module _ (b : end ≤ r .start) (next : List ℕ) (e : next ≡ set choices (n - left) 43) (x : Best) (one : x ≡ below (choicesFrom next 0 (n - (left - 1)))) where
+        abbrev may : endBy ends (row .first) ≤ row .start
+        may = free b
 
-    -- the answer below a choice, as the search and as the code gives it
-    abbrev on : Choice → Option (List Choice)
-    on c = cardSearch (basesOf reference) (all n) (left - 1) (more c)
+        x-is : x ≡ below (more plus)
+        x-is = one ∙ rw (e, taken-reads plus tt may)
 
-    abbrev below : List Choice → Best
-    below θ = answerFrom (basesOf reference) (all n) (left - 1) θ
+        pub search-all : x .score ≡ total + left → Answer x
+        search-all h =
+            answer x (search-top (basesOf reference) (all n) n (left - 1) φ whole true (taken-kept plus tt may) (taken-kept minus tt may) out-kept
+            x x-is (omega (arith, m .counted)))
 
-    below-long : (c : Choice) → Long n (on c)
-    below-long c =
-        let e : length (more c) + (left - 1) ≡ n = omega (arith, longer c) in
-        subst (λ (k : ℕ). Long k (on c)) e (search-long (basesOf reference) (all n) (left - 1) (more c))
+        -- y is that below `-`, and w the better of the two
+        module _ (then : List ℕ) (f : then ≡ set choices (n - left) 45) (y w : Best) (another : y ≡ below (choicesFrom then 0 (n - (left - 1)))) (two : w ≡ betterOf n x y) where
+          w-is : w ≡ betterOf n (below (more plus)) (below (more minus))
+          w-is = two ∙ rw (x-is, another, f, taken-reads minus tt may)
 
-    -- the answer, by whether the row's entry may be chosen
-    answers : (u : Bool) → keep? cardRules cardFinite (all n) (more plus) ≡ u → keep? cardRules cardFinite (all n) (more minus) ≡ u
-        → answerFrom (basesOf reference) (all n) left φ
-        ≡ betterOf n (answerOf (all n) (cond u (on plus) none)) (betterOf n (answerOf (all n) (cond u (on minus) none)) (below (more out)))
-    answers u p q =
-        let e : left ≡ suc (left - 1) = omega arith in
-        let xs = all n in
-        let s = score cardScoring xs in
-        let b = cond u (on minus) none in
-        ap (λ (k : ℕ). answerFrom (basesOf reference) xs k φ) e ∙ ap (answerOf xs) (search-step (basesOf reference) xs (left - 1) φ)
-        ∙ rw (p, q, is-true (keep? cardRules cardFinite (all n) (more out)) (out-made .kept))
-        (sym (ap (betterOf n (answerOf xs (cond u (on plus) none))) (better-answer xs n b (on out) (cond-long n (on minus) u (below-long minus)) (below-long out))
-        ∙ better-answer xs n (cond u (on plus) none) (better rankOf s b (on out)) (cond-long n (on plus) u (below-long plus))
-        (better-long xs n b (on out) (cond-long n (on minus) u (below-long minus)) (below-long out))))
+          pub search-but-one : T (w .found) → total + left - 1 ≤ w .score → Answer w
+          search-but-one g h =
+              answer w (search-near (basesOf reference) (all n) n (left - 1) φ whole true (taken-kept plus tt may) (taken-kept minus tt may) out-kept
+              w w-is g (omega (arith, out-made .counted)))
 
-    taken-kept : (c : Choice) → T (chosen? c) → endBy ends (row .first) ≤ row .start → keep? cardRules cardFinite (all n) (more c) ≡ true
-    taken-kept c u b = is-true _ (taken-made c u b .kept)
+          pub search-taken : (z v : Best) → z ≡ below (choicesFrom choices 0 (n - (left - 1))) → v ≡ betterOf n w z → Answer v
+          search-taken z v third three =
+              answer v (three ∙ rw (w-is, third, skipped-reads)
+              (search-three (basesOf reference) (all n) n (left - 1) φ whole true (taken-kept plus tt may) (taken-kept minus tt may) out-kept))
 
-    taken-not : (c : Choice) → T (chosen? c) → row .start < endBy ends (row .first) → keep? cardRules cardFinite (all n) (more c) ≡ false
-    taken-not c u b = rw at (dropped us (entryAt reference first second t (n - left)) vs φ long c u (omega (arith, midway .ended (row .first))))
-
-    module _ (r : Row) (end : ℕ) (is-row : r ≡ row) (is-end : end ≡ endBy ends (r .first)) (x y z w v : Best)
-        (third : z ≡ below (choicesFrom choices 0 (n - (left - 1)))) (two : w ≡ betterOf n y z) (three : v ≡ betterOf n x w) where
-      pub search-taken : (next then : List ℕ) → next ≡ set choices (n - left) 43 → then ≡ set choices (n - left) 45 → end ≤ r .start
-          → x ≡ below (choicesFrom next 0 (n - (left - 1))) → y ≡ below (choicesFrom then 0 (n - (left - 1)))
-          → v ≡ answerFrom (basesOf reference) (all n) left φ
-      search-taken next then e f b one another =
-          let h = free r end is-row is-end b in
-          let k = answers true (taken-kept plus tt h) (taken-kept minus tt h) in
-          three ∙ rw (two, one, another, third, e, f, taken-reads plus tt h, taken-reads minus tt h, skipped-reads) (sym k)
-
-      pub search-skipped : r .start < end → x ≡ nothingFound → y ≡ nothingFound → v ≡ answerFrom (basesOf reference) (all n) left φ
-      search-skipped b one another =
-          let h = not-free r end is-row is-end b in
-          three ∙ rw (two, one, another, third, skipped-reads) (sym (answers false (taken-not plus tt h) (taken-not minus tt h)))
-
-  -- nothing is chosen yet
-  module _ (n : ℕ) where
-    start : choicesFrom (replicate most 48) 0 (n - n) ≡ []
-    unfolding choicesFrom
-    start = let e : n - n ≡ 0 = omega arith in rw e
-
-    pub made-start : Made (all n) (choicesFrom (replicate most 48) 0 (n - n)) (replicate most 48) (record { first = 0; second = 0 }) 0
-    made-start = rw start (made-none (all n))
-
-    pub search-start : answerFrom (basesOf reference) (all n) n (choicesFrom (replicate most 48) 0 (n - n)) ≡ bestAnswer (basesOf reference) (all n)
-    search-start =
-        rw start (ap (λ (k : ℕ). answerFrom (basesOf reference) (all n) k []) (sym (entries-length reference first second t 0 n))
-        ∙ ap (answerOf (all n)) (search-any cardRules cardScoring (basesOf reference) (all n) cardFinite (keep? cardRules cardFinite (all n)) (legal-keeps cardRules cardFinite (basesOf reference) (all n))))
+      pub search-skipped : (w z v : Best) → r .start < end → w ≡ nothingFound → z ≡ below (choicesFrom choices 0 (n - (left - 1))) → v ≡ betterOf n w z → Answer v
+      search-skipped w z v b e third three =
+          let h = not-free b in
+          answer v (three ∙ rw (e, third, skipped-reads)
+          (search-three (basesOf reference) (all n) n (left - 1) φ whole false (taken-not plus tt h) (taken-not minus tt h) out-kept))

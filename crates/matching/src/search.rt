@@ -56,7 +56,8 @@ fn is_legal(
 }
 
 // The best legal choices that go on from those made, with `left` of the n entries left. Beside the choices made go the ends of each list and their score:
-// below a choice that overlaps an earlier one of its list nothing is tried. Behind the choices made the array has `0`.
+// below a choice that overlaps an earlier one of its list nothing is tried. Nor is a choice that cannot change the answer: no answer scores more than `top`,
+// the score with every entry left chosen, and of equal ones the one tried first is kept. Behind the choices made the array has `0`.
 fn search(
     reference: &[u8],
     first: &[u8],
@@ -98,13 +99,13 @@ fn search(
     }
     let at = n - left;
     let row = row_at(table, at);
-    let mut x = nothing();
-    let mut y = nothing();
+    let top = score + left;
+    let mut best = nothing();
     if end_by(ends, row.first) <= row.start {
         let after = ends_after(ends, row.first, row.start + row.len);
         let mut next = choices;
         next[at] = b'+';
-        x = search(
+        let x = search(
             reference,
             first,
             second,
@@ -119,8 +120,11 @@ fn search(
             mine,
             other,
         );
+        if x.score == top {
+            return x;
+        }
         next[at] = b'-';
-        y = search(
+        let y = search(
             reference,
             first,
             second,
@@ -135,6 +139,10 @@ fn search(
             mine,
             other,
         );
+        best = better(n, x, y);
+        if best.found & (top - 1 <= best.score) {
+            return best;
+        }
     }
     let z = search(
         reference,
@@ -151,7 +159,7 @@ fn search(
         mine,
         other,
     );
-    better(n, x, better(n, y, z))
+    better(n, best, z)
 }
 
 // The best choices for the first n entries of the table: the highest score, and among equals the first in dictionary order. All entries lie between places

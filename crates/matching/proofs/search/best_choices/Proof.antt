@@ -1,7 +1,7 @@
 -- `matching::search::best_choices` meets its contract: the search from nothing on. Assumes nothing.
 use mathlib.Core.Path.{_∙_}
 use native.Mathlib.Omega.{arith}
-use Rattle.matching.proofs.MidwayLaws.{made-start, search-start}
+use Rattle.matching.proofs.AnswerBest.{made-start, search-start}
 use borrow.Author.Needs.{needs}
 use Rattle.matching.proofs.search.best_choices.Statement.{statement}
 use Rattle.matching.proofs.search.best_choices.Tie as tie
