@@ -159,6 +159,32 @@ card_answer card_mark(const uint8_t *reference, size_t reference_count, const ui
                       const uint8_t *first, size_t first_count, const uint8_t *second, size_t second_count,
                       const card_cluster *plan, size_t plan_count, size_t cluster, uint8_t *marks, size_t marks_count);
 
+/*
+ * What the marks of two lists count: how many entries of each list are matched ('+' or '-'), unmatched ('0') and undecided
+ * ('?'). Where list 1 is the truth, its matched entries over its entries less the undecided ones are the recall.
+ *
+ * Refused: number, list and line as in card_answer, and six zeros. Answered: number, list and line are 0.
+ */
+typedef struct {
+    uint32_t number, list, line;
+    uint32_t matched1, unmatched1, undecided1; /* of list 1 */
+    uint32_t matched2, unmatched2, undecided2; /* of list 2 */
+} card_counts;
+
+/*
+ * Counts marks. Nothing is written.
+ *
+ * reference, name, first, second   as for card_plan
+ * marks      CARD_LEAST bytes or more, one an entry in merged order, as card_mark leaves them once each cluster has been answered
+ *
+ * The marks need not be those of these lists: each byte is taken for the mark of its entry. A byte that is none of the four marks
+ * is counted nowhere, so the three counts of a list then add up to less than its entries. Bytes behind the entries are not read.
+ * Refused: 1, 2, 3 to 15.
+ */
+card_counts card_count(const uint8_t *reference, size_t reference_count, const uint8_t *name, size_t name_count,
+                       const uint8_t *first, size_t first_count, const uint8_t *second, size_t second_count,
+                       const uint8_t *marks, size_t marks_count);
+
 #ifdef __cplusplus
 }
 #endif

@@ -1,6 +1,7 @@
 -- The marks of the clusters, and those of the best pair over the two whole lists.
 --     marks-long, marks-none        a cluster has one mark an entry
---     whole-long          the clusters together have as many entries as the two lists
+--     whole-long, clusters-long, marks-all
+--                         the clusters together have as many entries as the two lists, and as many marks
 --     entries-most, plan-few        accepted lists together have at most 1,024 entries, hence at most as many clusters
 --     mark-best           entry i of a decided cluster has the mark that the best pair over the two whole lists gives it
 --     mark-question, mark-only      each entry of an undecided cluster has `?`, and no other entry has
@@ -11,10 +12,10 @@ use mathlib.Core.Path.{_≡_, refl, sym, ap, _∙_}
 use Prim.Native.Nat.{ℕ, zero, suc, _+_, _≤_, _<_}
 use native.Mathlib.Omega.{arith}
 use lib.Dec.{T}
-use lib.ListN.{length, getD, replicate, length-replicate, getD-replicate}
+use lib.ListN.{length, getD, replicate, length-append, length-replicate, getD-replicate}
 use Rattle.bases.specs.Letter.{basesOf}
 use Rattle.bases.proofs.TestLaws.{is-true}
-use Rattle.clusters.specs.Marks.{QUESTION, decided?, marksOf, clustersOf, firstEntry, clusterAt}
+use Rattle.clusters.specs.Marks.{QUESTION, decided?, marksOf, clustersOf, firstEntry, clusterAt, allMarks}
 use Rattle.clusters.specs.Merged.{mergedItems, mergedVariants}
 use Rattle.clusters.specs.Item.{variant}
 use Rattle.clusters.specs.declared.plan.Cluster.{Cluster}
@@ -77,12 +78,23 @@ module _ (reference : List ℕ) where
   pub marks-none : marksOf reference [] ≡ []
   marks-none = empty-of (marksOf reference []) (marks-long [])
 
+  all-long : (cs : List (List Variant)) → length (allMarks reference cs) ≡ length (join cs)
+  unfolding join
+  all-long [] = refl
+  all-long (c ∷ cs) = omega (arith, length-append (marksOf reference c) (allMarks reference cs), length-append c (join cs), marks-long c, all-long cs)
+
   module _ (name first second : List ℕ) (accepted1 : judgeText reference name first .number ≡ 0) (accepted2 : judgeText reference name second .number ≡ 0) where
     abbrev cs : List (List Variant)
     cs = clustersOf reference first second
 
     pub whole-long : length (join (clustersOf reference first second)) ≡ length (mergedVariants reference first second)
     whole-long = ap length (clusters-join reference name first second accepted1 accepted2)
+
+    pub clusters-long : length (join (clustersOf reference first second)) ≡ length (mergedItems first second)
+    clusters-long = whole-long ∙ map-length (variant reference first second) (mergedItems first second)
+
+    pub marks-all : length (allMarks reference (clustersOf reference first second)) ≡ length (mergedItems first second)
+    marks-all = all-long (clustersOf reference first second) ∙ clusters-long
 
     pub entries-most : length (mergedVariants reference first second) ≤ leastRoom
     entries-most =

@@ -16,6 +16,8 @@ use Rattle.card.proofs.answer.refuse.Kinds as refuse-kinds
 use Rattle.card.proofs.answer.refuse.Reads as refuse
 use Rattle.card.proofs.answer.give.Kinds as give-kinds
 use Rattle.card.proofs.answer.give.Reads as give
+use Rattle.card.proofs.count.count.Kinds as count-kinds
+use Rattle.card.proofs.count.count.Reads as count
 use Rattle.card.proofs.lists.is_small.Kinds as is-small-kinds
 use Rattle.card.proofs.lists.is_small.Reads as is-small
 use Rattle.card.proofs.lists.list_refused.Kinds as list-refused-kinds
@@ -39,6 +41,9 @@ refuse-determines κs a z z′ e e′ p q = p ∙ sym q
 
 pub give-determines : OneResult 0 give-kinds.ps give-kinds.r give.Post
 give-determines κs a z z′ e e′ p q = p ∙ sym q
+
+pub count-determines : OneResult 5 count-kinds.ps count-kinds.r count.Post
+count-determines κs a z z′ e e′ p q = p ∙ sym q
 
 pub is-small-determines : OneResult 0 is-small-kinds.ps is-small-kinds.r is-small.Post
 is-small-determines κs a z z′ e e′ p q = p ∙ sym q

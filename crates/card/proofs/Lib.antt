@@ -6,6 +6,8 @@ pub mod ArraySteps
 pub mod CallDetermines
 pub mod CallSteps
 pub mod ClusterMarks
+pub mod CountExamples
+pub mod CountLaws
 pub mod DemandLaws
 pub mod Determines
 pub mod Examples

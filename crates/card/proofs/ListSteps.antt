@@ -40,12 +40,12 @@ use denote.Triple.Clauses.{Clauses, Ended, atExit}
 use denote.Triple.Entry.{Args}
 use denote.Triple.Spec.{tripleOf}
 use denote.Triple.Statement.{Contract, Triple}
-use Rattle.clusters.proofs.ByHand.{Met, asks, asks-lent, lastIn, lastVals, last-in, lastLft, lastShare, token-out, token-in}
+use Rattle.clusters.proofs.ByHand.{Met, asks, asks-lent, became, lastIn, lastVals, last-in, lastLft, lastShare, token-out, token-in}
 use Rattle.clusters.proofs.PlanSteps as Three
 use Rattle.card.specs.declared.answer.Answer.{Answer}
 use Rattle.card.specs.Answer.{refusedAnswer}
 use Rattle.card.specs.Refusal.{firstRefusal, listsChecks}
-use Rattle.card.proofs.CallSteps.{became, Ends}
+use Rattle.card.proofs.CallSteps.{Ends}
 use Rattle.card.proofs.answer.Answer as Answer′
 use Rattle.card.proofs.answer.Answer.Laws as Answer″
 use Rattle.card.proofs.lists.lists_refused as lists-refused

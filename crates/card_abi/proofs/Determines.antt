@@ -8,11 +8,16 @@ use denote.Ref.{now}
 use Rattle.bases.proofs.Determines.{OneResult, OneLeft}
 use Rattle.card_abi.proofs.allele.card_allele.Kinds as card-allele-kinds
 use Rattle.card_abi.proofs.allele.card_allele.Reads as card-allele
+use Rattle.card_abi.proofs.count.card_count.Kinds as card-count-kinds
+use Rattle.card_abi.proofs.count.card_count.Reads as card-count
 use Rattle.card_abi.proofs.normal_text.card_normal.Kinds as card-normal-kinds
 use Rattle.card_abi.proofs.normal_text.card_normal.Reads as card-normal
 
 pub card-allele-determines : OneResult 3 card-allele-kinds.ps card-allele-kinds.r card-allele.Post
 card-allele-determines κs a z z′ e e′ p q = p ∙ sym q
+
+pub card-count-determines : OneResult 5 card-count-kinds.ps card-count-kinds.r card-count.Post
+card-count-determines κs a z z′ e e′ p q = p ∙ sym q
 
 pub card-normal-determines : OneResult 4 card-normal-kinds.ps card-normal-kinds.r card-normal.Post
 card-normal-determines κs a z z′ e e′ p q = p .0 ∙ sym (q .0)

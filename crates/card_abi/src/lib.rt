@@ -1,5 +1,6 @@
-// The card's calls for C and Rust: no reference is returned, and each answer is four numbers.
+// The card's calls for C and Rust: no reference is returned, and each answer is a struct of numbers.
 pub mod allele;
+pub mod count;
 pub mod mark;
 pub mod normal_text;
 pub mod plan;

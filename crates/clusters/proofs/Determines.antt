@@ -10,6 +10,10 @@ use Rattle.clusters.proofs.cluster.next_cluster.Kinds as next-cluster-k
 use Rattle.clusters.proofs.cluster.next_cluster.Reads as next-cluster
 use Rattle.clusters.proofs.cluster.skip_clusters.Kinds as skip-clusters-kinds
 use Rattle.clusters.proofs.cluster.skip_clusters.Reads as skip-clusters
+use Rattle.clusters.proofs.count.count_all.Kinds as count-all-kinds
+use Rattle.clusters.proofs.count.count_all.Reads as count-all
+use Rattle.clusters.proofs.count.count_lists.Kinds as count-lists-kinds
+use Rattle.clusters.proofs.count.count_lists.Reads as count-lists
 use Rattle.clusters.proofs.gap.begin.Kinds as begin-kinds
 use Rattle.clusters.proofs.gap.begin.Reads as begin
 use Rattle.clusters.proofs.gap.is_cut.Kinds as is-cut-kinds
@@ -42,6 +46,12 @@ next-cluster-determines κs a z z′ e e′ p q = p ∙ sym q
 
 pub skip-clusters-determines : OneResult 3 skip-clusters-kinds.ps skip-clusters-kinds.r skip-clusters.Post
 skip-clusters-determines κs a z z′ e e′ p q = p ∙ sym q
+
+pub count-all-determines : OneResult 1 count-all-kinds.ps count-all-kinds.r count-all.Post
+count-all-determines κs a z z′ e e′ p q = p ∙ sym q
+
+pub count-lists-determines : OneResult 3 count-lists-kinds.ps count-lists-kinds.r count-lists.Post
+count-lists-determines κs a z z′ e e′ p q = p ∙ sym q
 
 pub begin-determines : OneResult 0 begin-kinds.ps begin-kinds.r begin.Post
 begin-determines κs a z z′ e e′ p q = p ∙ sym q

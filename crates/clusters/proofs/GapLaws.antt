@@ -1,8 +1,8 @@
 -- Laws of the gap rule.
 --     cut-words                 the test in document 01's words
 --     cut-gap, gap-cut          a cut is where the gap has no period q with 1 ≤ q ≤ g: that holds both 'g = 0' and 'longer than g'
---     cut-test, cut-bases, cut-behind
---                               the same as tests, of bases and of bytes; no cut where the item starts before b
+--     cut-test, cut-bases, cut-read, cut-behind
+--                               the same as tests, of bases and of bytes, and by what is read; no cut where the item starts before b
 --     source-cut                where source document 000 allows a cut, so does this rule
 --     stop, stop-ends, currentOf, current-begin, current-more
 --                               what is kept of a cluster: the largest end and the four sums over its items, one item more at a time
@@ -103,6 +103,10 @@ pub cut-bases : (bytes : List ℕ) (c : Current) (p : ℕ) → p ≤ length byte
 cut-bases bytes c p h k =
     let e : part (basesOf bytes) (c .b) p ≡ basesOf (part bytes (c .b) p) = sym (bases-part bytes (c .b) (p - c .b)) in
     cut-test (basesOf bytes) c p (rw (bases-length bytes) h) k ∙ ap (λ (y : List ℕ). not (anyPeriod? (reachOf c) y)) e
+
+pub cut-read : (bytes : List ℕ) (c : Current) (p : ℕ) {g : ℕ} {t : Bool} → p ≤ length bytes → c .b ≤ p
+    → g ≡ reachOf c → t ≡ anyPeriod? g (basesOf (part bytes (c .b) p)) → not t ≡ cut? (basesOf bytes) c p
+cut-read bytes c p h k eg et = let e = cut-bases bytes c p h k in cc
 
 module _ (c : Current) (z : Size) (m : ℕ) (e : m ≡ max (c .b) (z .end)) where
   pub more-first : z .side ≡ true → record { b = m; a1 = c .a1 + z .shrink; b1 = c .b1 + z .grow; a2 = c .a2; b2 = c .b2 } ≡ more c z

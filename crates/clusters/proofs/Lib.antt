@@ -1,7 +1,10 @@
 pub mod ByHand
 pub mod CardClusters
 pub mod ClusterLaws
+pub mod CountLaws
+pub mod CountingLaws
 pub mod Determines
+pub mod EntryCounts
 pub mod EveryLaws
 pub mod Examples
 pub mod FillLaws
@@ -9,6 +12,7 @@ pub mod FirstLaws
 pub mod GapLaws
 pub mod HeadsLaws
 pub mod JoinLaws
+pub mod Leaving
 pub mod LentDetermines
 pub mod LentLaws
 pub mod MarkLaws

@@ -1,4 +1,7 @@
 -- Laws of entries as rows of the search's table.
+--     stand-ref, stand-first        where the bytes of REF and of the first ALT stand
+--     row-is, numbers-are, stretch-is
+--                                   a row, its numbers and a stretch with a row more in it, each from what is read
 --     row-variant, row-sound        the row of an entry is the entry, as matching reads it; that of a sound entry is sound
 --     row-front, row-behind         a table's first row, and those behind it
 --     table-variants, table-row     the rows that were written are read again; what is so of each
@@ -7,15 +10,18 @@
 use mathlib.Core.Bool.{Bool, true, false}
 use mathlib.Core.List.{List, [], _∷_, _++_, append-assoc, map}
 use mathlib.Core.Path.{_≡_, refl, sym, ap, ap₂, _∙_, subst}
-use Prim.Native.Nat.{ℕ, zero, suc, _+_, _*_, _≤_, _<_}
+use Prim.Native.Nat.{ℕ, zero, suc, _+_, _*_, _≤_, _<_, max, min}
 use native.Mathlib.Numerals.{add-one}
 use native.Mathlib.Omega.{arith}
 use lib.Dec.{eqb}
 use lib.ListN.{length, getD, drop, length-append, length-take, length-drop}
 use lib.Seq.{getD-append-add}
+use Rattle.bases.specs.declared.place.Place.{Place}
 use Rattle.bases.specs.Letter.{pick, basesOf}
+use Rattle.bases.specs.Place.{placeOf}
 use Rattle.bases.specs.Put.{put}
 use Rattle.bases.proofs.LetterLaws.{bases-length}
+use Rattle.donors.specs.declared.table.Allele.{Allele}
 use Rattle.donors.specs.declared.table.Row.{Row}
 use Rattle.donors.specs.Apart.{All}
 use Rattle.donors.specs.Build.{Sound}
@@ -25,9 +31,28 @@ use Rattle.vcf.specs.declared.entry.Entry.{Entry}
 use Rattle.vcf.specs.declared.entry.Part.{Part}
 use Rattle.vcf.specs.Entry.{bytesOf}
 use Rattle.clusters.specs.declared.item.Item.{Item}
+use Rattle.clusters.specs.declared.row.Stretch.{Stretch}
 use Rattle.clusters.specs.Item.{startOf, alleleOf, textOf, variant, lenOf}
-use Rattle.clusters.specs.Row.{standOf, rowOf, numbersOf, tableOf}
+use Rattle.clusters.specs.Row.{inText, standOf, rowOf, numbersOf, tableOf, widened}
 use Rattle.clusters.proofs.CardClusters.{SoundItem}
+
+pub stand-ref : (e : Entry) {s k : ℕ} → s ≡ startOf e → k ≡ 0 → _≡_ {A = Allele} record { text = false; at = s; len = e .reference .len } (standOf e k)
+stand-ref e es ek = cc
+
+pub stand-first : (e : Entry) {k : ℕ} → k ≡ 1 → inText (e .first) ≡ standOf e k
+stand-first e ek = cc
+
+pub row-is : (i : Item) {p : Place} {a b : Allele} → p ≡ placeOf (i .entry .pos) → a ≡ standOf (i .entry) (i .entry .copy0) → b ≡ standOf (i .entry) (i .entry .copy1)
+    → _≡_ {A = Row} record { first = i .side; start = p .0; len = i .entry .reference .len; copy0 = a; copy1 = b } (rowOf i)
+row-is i ep ea eb = let e = ap (λ (q : Place). q .0) ep in cc
+
+pub numbers-are : (r : Row) {a b c : ℕ} → a ≡ pick (r .first) 1 2 → b ≡ pick (r .copy0 .text) 1 0 → c ≡ pick (r .copy1 .text) 1 0
+    → a ∷ r .start ∷ r .len ∷ b ∷ r .copy0 .at ∷ r .copy0 .len ∷ c ∷ r .copy1 .at ∷ r .copy1 .len ∷ [] ≡ numbersOf r
+numbers-are r ea eb ec = cc
+
+pub stretch-is : (s : Stretch) (r : Row) {from to : ℕ} → from ≡ min (s .from) (r .start) → to ≡ max (s .to) (r .start + r .len)
+    → _≡_ {A = Stretch} record { from = from; to = to } (widened s r)
+stretch-is s r ef et = cc
 
 -- the bases that stand where a row says are the allele's
 stand-bases : (reference text : List ℕ) (e : Entry) (k : ℕ) → basesOf (alleleBytes reference text (standOf e k)) ≡ alleleOf reference text e k

@@ -1,3 +1,4 @@
+pub mod Counts
 pub mod Gap
 pub mod Heads
 pub mod Item

@@ -2,6 +2,7 @@
 -- are; else the records are passed on to `fill_plan` and the marks to `mark_every`, and what is had of them is what those say. Assumes nothing.
 use mathlib.Core.Bool.{Bool, not}
 use mathlib.Core.List.{List, [], _∷_, _++_}
+use mathlib.Core.Option.{none as empty, some as held}
 use mathlib.Core.Path.{_≡_, refl, sym}
 use Prim.Native.Nat.{ℕ, _<_, _≤_, _^_}
 use native.Mathlib.Omega.{arith}
@@ -22,7 +23,7 @@ use contract.Lifetimes.{Lfts, Shares, toks}
 use contract.Monad.{Fun, factI}
 use contract.Running.{givenOf, tables, tablesOf}
 use types.Kit.{Given, Item, ‵, raw, _⊛_, runs, atRet, Sq, _$_, _∵_, !, qed, by, move, keep, use1, split}
-use types.Run.{look, init, stop, hop, fld, from, load, addr, lit, of-opd, bin, un, and-then, no-more, assigns, land, first, skips, branches, returns, returns-within, enter, alloc1, alloc0, params1, pass1, pass0, free1, free0, exec}
+use types.Run.{look, init, stop, hop, fld, from, load, addr, lit, of-opd, bin, un, and-then, no-more, assigns, land, first, skips, branches, returns, returns-within, enter, alloc1, alloc0, params1, pass1, pass0, exec}
 use types.Part.{agg, whole, sub, look-in}
 use sound.WpLaws.{fmOf, WpFn-mono}
 use denote.Builtin.{u8}
@@ -43,7 +44,8 @@ use Rattle.clusters.specs.declared.plan.Cluster.{Cluster}
 use Rattle.clusters.specs.Marks.{clustersOf, allMarks, totalScore}
 use Rattle.clusters.specs.Merged.{mergedItems}
 use Rattle.clusters.specs.Plan.{planOf}
-use Rattle.clusters.proofs.ByHand.{gone1, lastIn, lastVals, last-out, lastLft, lastShare, token-out}
+use Rattle.clusters.proofs.ByHand.{tells-values, lastIn, lastVals, last-out, lastLft, lastShare, token-out}
+use Rattle.clusters.proofs.Leaving.{leaves}
 use Rattle.clusters.proofs.PlanSteps.{R, word, text}
 use Rattle.clusters.proofs.mark.mark_every as mark-every
 use Rattle.clusters.proofs.mark.mark_every.Symbol as mark-every-def
@@ -58,7 +60,7 @@ use Rattle.card.specs.Refusal.{leastRoom}
 use Rattle.card.proofs.AllLaws.{all-refused, all-given}
 use Rattle.card.proofs.AllSteps.{Plan, Marks, Rooms, Ghost, passed, args, Post, exits, meets}
 use Rattle.card.proofs.AnswerSteps.{turned-away, read}
-use Rattle.card.proofs.CallSteps.{tells-values, Ends, gives-up}
+use Rattle.card.proofs.CallSteps.{Ends, gives-up}
 use Rattle.card.proofs.ListSteps.{Refs, vals, Texts, texts, turned, Good, Refused, turns-away, fills}
 use Rattle.card.proofs.Passing.{local}
 use Rattle.card.proofs.ReadyLaws.{lists-answerable}
@@ -183,7 +185,7 @@ module _ {M : Type 1} (𝓤 : URA M) (H : Heap 𝓤) (A : Atoms 𝓤) (W : Given
         (and-then ! (local ! 29 refl) (and-then ! (local ! 9 refl) (and-then ! (local ! 7 refl) (no-more !)))) (λ good.
         land ! (from ! (stop !)) (init ! 44 refl (LL.lawful AllMarked′.the-type AllMarked″.the-laws 𝓤 H A W .typed (allMarked refused (length P) score) _ good .0)) $
         returns ! (look ! 44 refl) $ move ! (44 ∷ 45 ∷ 42 ∷ 43 ∷ 40 ∷ 41 ∷ 38 ∷ 39 ∷ 36 ∷ 37 ∷ 34 ∷ 35 ∷ 32 ∷ 33 ∷ 30 ∷ 31 ∷ 28 ∷ 29 ∷ 26 ∷ 27 ∷ 24 ∷ 25 ∷ 22 ∷ 23 ∷ 20 ∷ 21 ∷ 18 ∷ 19 ∷ 16 ∷ 17 ∷ 14 ∷ 15 ∷ 12 ∷ 13 ∷ 10 ∷ 11 ∷ 8 ∷ 9 ∷ 6 ∷ 7 ∷ []) $
-        gone1 ! $ gone1 ! $ gone1 ! $ gone1 ! $ gone1 ! $ gone1 ! $ gone1 ! $ gone1 ! $ gone1 ! $ gone1 ! $ gone1 ! $ gone1 ! $ gone1 ! $ gone1 ! $ gone1 ! $ gone1 ! $ gone1 ! $ gone1 ! $ gone1 ! $ gone1 ! $ free0 ! $
+        leaves ! En (held _ ∷ held _ ∷ held _ ∷ held _ ∷ held _ ∷ held _ ∷ held _ ∷ held _ ∷ held _ ∷ held _ ∷ held _ ∷ held _ ∷ held _ ∷ held _ ∷ held _ ∷ held _ ∷ held _ ∷ held _ ∷ held _ ∷ held _ ∷ []) $
         keep ! (0 ∷ 4 ∷ 2 ∷ 5 ∷ 3 ∷ []) $ by ! (exits 𝓤 H A mem run κs κ κ₂ qs q q₂ xs x m W (allMarked refused (length P) score) (put (x .now) 0 P) (put (m .now) 0 marks) good (sym (says-so .0), sym (says-so .1), sym (says-so .2))))))
 
     -- the lists are turned away: what is said of them is answered, and the records and the marks are given up
@@ -205,7 +207,7 @@ module _ {M : Type 1} (𝓤 : URA M) (H : Heap 𝓤) (A : Atoms 𝓤) (W : Given
         AllMarked″.lowered (AllMarked″.lowers .val-is) (allMarked refused 0 0) (λ r ws. refl) (and-then ! (local ! 29 refl) (and-then ! (lit ! tt) (and-then ! (lit ! tt) (no-more !)))) (λ good.
         land ! (from ! (stop !)) (init ! 44 refl (LL.lawful AllMarked′.the-type AllMarked″.the-laws 𝓤 H A W .typed (allMarked refused 0 0) _ good .0)) $
         returns-within ! End refl (look ! 44 refl) $ move ! (44 ∷ 45 ∷ 42 ∷ 43 ∷ 40 ∷ 41 ∷ 38 ∷ 39 ∷ 36 ∷ 37 ∷ 34 ∷ 35 ∷ 32 ∷ 33 ∷ 30 ∷ 31 ∷ 28 ∷ 29 ∷ 26 ∷ 27 ∷ 24 ∷ 25 ∷ 22 ∷ 23 ∷ 20 ∷ 21 ∷ 18 ∷ 19 ∷ 16 ∷ 17 ∷ 14 ∷ 15 ∷ 12 ∷ 13 ∷ 10 ∷ 11 ∷ 8 ∷ 9 ∷ 6 ∷ 7 ∷ []) $
-        gone1 ! $ gone1 ! $ gone1 ! $ gone1 ! $ gone1 ! $ gone1 ! $ gone1 ! $ gone1 ! $ gone1 ! $ free1 ! $ free1 ! $ gone1 ! $ gone1 ! $ gone1 ! $ free1 ! $ free1 ! $ free1 ! $ free1 ! $ free1 ! $ free1 ! $ free0 ! $
+        leaves ! En (held _ ∷ held _ ∷ held _ ∷ held _ ∷ held _ ∷ held _ ∷ held _ ∷ held _ ∷ held _ ∷ empty ∷ empty ∷ held _ ∷ held _ ∷ held _ ∷ []) $
         move ! (5 ∷ []) $ use1 W (‵ (Ends u8 m (m .now))) (gives-up 𝓤 H A W (named 5) κ₂ u8 m (slice-vals m)) $ move ! (4 ∷ []) $ use1 W (‵ (Ends R x (x .now))) (gives-up 𝓤 H A W (named 4) κ R x (slice-vals x)) $
         -- [the records; the marks; the texts' tokens; the texts; the records' token; the marks' token]
         keep ! (2 ∷ 4 ∷ 5 ∷ 0 ∷ 1 ∷ []) $

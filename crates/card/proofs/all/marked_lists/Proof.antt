@@ -1,6 +1,7 @@
 -- `card::all::marked_lists` meets its contract: a walk of its MIR, by hand. A local array of records is made, lent to `mark_all` for a lifetime of the
 -- call, taken back, and returned with the answer. In the walk the array's list is any list xs: only at its end is it said which. Assumes nothing.
 use mathlib.Core.List.{List, [], _∷_, _++_}
+use mathlib.Core.Option.{some as held}
 use mathlib.Core.Path.{_≡_, refl, sym, ap, subst, _∙_}
 use Prim.Native.Nat.{ℕ}
 use lib.Dec.{lit<}
@@ -19,7 +20,7 @@ use contract.Lifetimes.{Lfts, Shares, toks}
 use contract.Monad.{Fun}
 use contract.Running.{givenOf, tables, tablesOf}
 use types.Kit.{Given, Item, ‵, raw, _⊛_, ⋆, runs, atRet, Sq, _$_, _∵_, !, qed, by, move, keep, drop, use1, use2, split, rewrite, fsplit, fsplit3, fjoin, suffices, frame, done}
-use types.Run.{look, init, stop, hop, fld, from, load, addr, lit, of-opd, and-then, no-more, assigns, land, returns, enter, alloc1, alloc0, params1, pass1, pass0, free0}
+use types.Run.{look, init, stop, hop, fld, from, load, addr, lit, of-opd, and-then, no-more, assigns, land, returns, enter, alloc1, alloc0, params1, pass1, pass0}
 use types.Part.{agg, rep, whole, sub, look-in}
 use sound.WpLaws.{fmOf, WpFn-mono}
 use denote.Array.{Array, arrayVal, array-lawful}
@@ -37,7 +38,8 @@ use denote.Triple.Statement.{Contract, Triple}
 use denote.Triple.Table.{entered, cited}
 use denote.Triple.Walked.{says, Stays, walkOf, Walks, ends-at, walked, walk-meets}
 use Rattle.clusters.specs.declared.plan.Cluster.{Cluster}
-use Rattle.clusters.proofs.ByHand.{asks-lent, gone1, lastIn, lastVals, last-out, last-in, lastLft, lastShare, token-out, token-in}
+use Rattle.clusters.proofs.ByHand.{asks-lent, lastIn, lastVals, last-out, last-in, lastLft, lastShare, token-out, token-in}
+use Rattle.clusters.proofs.Leaving.{leaves}
 use Rattle.clusters.proofs.PlanSteps.{R, none, made, text}
 use Rattle.clusters.proofs.plan.Cluster as Cluster′
 use Rattle.clusters.proofs.plan.Cluster.Laws as Cluster″
@@ -177,7 +179,7 @@ module _ {M : Type 1} (𝓤 : URA M) (H : Heap 𝓤) (A : Atoms 𝓤) (W : Given
         assigns ! (agg ! (and-then ! (local ! 18 refl) (and-then ! (local ! 6 refl) (no-more !)))) (from ! (stop !))
         (init ! 31 refl (LL.lawful MarkedLists′.the-type MarkedLists″.the-laws 𝓤 H A W .typed (both r (ws .1 .1 .1 .1 .0)) _ (is-both r v (ws .1 .1 .1 .1 .0) is there) .0)) $
         returns ! (look ! 31 refl) $ move ! (31 ∷ 32 ∷ 29 ∷ 30 ∷ 27 ∷ 28 ∷ 25 ∷ 26 ∷ 23 ∷ 24 ∷ 21 ∷ 22 ∷ 0 ∷ 20 ∷ 18 ∷ 19 ∷ 16 ∷ 17 ∷ 14 ∷ 15 ∷ 12 ∷ 13 ∷ 10 ∷ 11 ∷ 8 ∷ 9 ∷ 6 ∷ 7 ∷ []) $
-        gone1 ! $ gone1 ! $ gone1 ! $ gone1 ! $ gone1 ! $ gone1 ! $ gone1 ! $ gone1 ! $ gone1 ! $ gone1 ! $ gone1 ! $ gone1 ! $ gone1 ! $ gone1 ! $ free0 ! $
+        leaves ! En (held _ ∷ held _ ∷ held _ ∷ held _ ∷ held _ ∷ held _ ∷ held _ ∷ held _ ∷ held _ ∷ held _ ∷ held _ ∷ held _ ∷ held _ ∷ held _ ∷ []) $
         keep ! (0 ∷ 1 ∷ 3 ∷ []) $ by ! (exits l₆ δ r v (ws .1 .1 .1 .1 .0) (ws .1 .1 .1 .1 .1 .0) (is-both r v (ws .1 .1 .1 .1 .0) is there) e))))
 
   walk : (𝓣 : Tables 𝓤 H) → Triple 𝓤 (𝓣 .C mark-all-def.name) (All 𝓤 H A mem run)

@@ -3,6 +3,7 @@
 -- Assumes nothing.
 use mathlib.Core.Bool.{Bool, not}
 use mathlib.Core.List.{List, [], _∷_, _++_}
+use mathlib.Core.Option.{none as empty, some as held}
 use mathlib.Core.Path.{_≡_, refl, sym, ap, _∙_}
 use Prim.Native.Nat.{ℕ}
 use native.Mathlib.Omega.{arith}
@@ -23,7 +24,7 @@ use contract.Lifetimes.{Lfts, Shares, toks}
 use contract.Monad.{Fun, factI}
 use contract.Running.{givenOf, tables, tablesOf}
 use types.Kit.{Given, Item, ‵, raw, later, runs, atRet, Sq, _$_, _∵_, !, qed, by, move, keep, drop, use1, rewrite, fsplit, feqL, await}
-use types.Run.{look, init, stop, hop, fld, from, load, addr, lit, of-opd, bin, and-then, no-more, assigns, land, first as into, skips, branches, returns-within, returns, enter, alloc1, alloc0, params1, pass1, pass0, free1, free0, exec}
+use types.Run.{look, init, stop, hop, fld, from, load, addr, lit, of-opd, bin, and-then, no-more, assigns, land, first as into, skips, branches, returns-within, returns, enter, alloc1, alloc0, params1, pass1, pass0, exec}
 use types.Part.{agg, whole, sub, look-in}
 use sound.WpLaws.{fmOf, WpFn-mono}
 use denote.RattleType.{RattleType, Denots, Valss, owns}
@@ -46,7 +47,7 @@ use Rattle.clusters.specs.declared.plan.Cluster.{Cluster}
 use Rattle.clusters.specs.Lent.{isPlan?}
 use Rattle.clusters.specs.Marks.{clustersOf, askedFor, marksAfter}
 use Rattle.clusters.specs.Plan.{planOf}
-use Rattle.clusters.proofs.ByHand.{gone1}
+use Rattle.clusters.proofs.Leaving.{leaves}
 use Rattle.clusters.proofs.PlanSteps.{R, word, text}
 use Rattle.clusters.proofs.plan.is_plan as is-plan
 use Rattle.clusters.proofs.plan.is_plan.Symbol as is-plan-def
@@ -189,7 +190,7 @@ module _ {M : Type 1} (𝓤 : URA M) (H : Heap 𝓤) (A : Atoms 𝓤) (W : Given
         -- [the marks' last list; true; the tokens of those; the records' token; the name's; _15; …]
         land ! (from ! (stop !)) (init ! 38 refl (LL.lawful Answer′.the-type Answer″.the-laws 𝓤 H A W .typed b _ good .0)) $
         returns ! (look ! 38 refl) $ move ! (38 ∷ 39 ∷ 36 ∷ 37 ∷ 34 ∷ 35 ∷ 32 ∷ 33 ∷ 30 ∷ 31 ∷ 28 ∷ 29 ∷ 26 ∷ 27 ∷ 24 ∷ 25 ∷ 22 ∷ 23 ∷ 20 ∷ 21 ∷ 18 ∷ 19 ∷ 16 ∷ 17 ∷ 14 ∷ 15 ∷ 12 ∷ 13 ∷ 10 ∷ 11 ∷ 8 ∷ 9 ∷ []) $
-        gone1 ! $ gone1 ! $ gone1 ! $ gone1 ! $ gone1 ! $ gone1 ! $ gone1 ! $ gone1 ! $ gone1 ! $ gone1 ! $ gone1 ! $ gone1 ! $ gone1 ! $ gone1 ! $ gone1 ! $ gone1 ! $ free0 ! $
+        leaves ! En (held _ ∷ held _ ∷ held _ ∷ held _ ∷ held _ ∷ held _ ∷ held _ ∷ held _ ∷ held _ ∷ held _ ∷ held _ ∷ held _ ∷ held _ ∷ held _ ∷ held _ ∷ held _ ∷ []) $
         keep ! (2 ∷ 7 ∷ 3 ∷ 4 ∷ 6 ∷ 5 ∷ 0 ∷ []) $ by ! (exits 𝓤 H A mem run κs qs a W b v good (left .1 .1 .1 .1 .1 .0) len (f .0 ∙ sym (law .0), f .1 ∙ sym (law .1))))))
 
     starts : Sq W (tokens 𝓤 6 κs qs ++ (‵ (owns Texts refs vals) ∷ ‵ own-name ∷ ‵ own-plan ∷ ‵ own-marks ∷ Locals (‵ (froom tyBool l₁₃ 0)) (‵ (froom word l₁₂ 0)) (‵ (froom word l₁₁ 0)) (‵ (froom Answer″.mir l₉ 0)) (‵ (froom tyBool l₈ 0)))) (runs (𝓣 .C) (𝓣 .Λ) En cm.t-1 (atRet En End))
@@ -212,13 +213,13 @@ module _ {M : Type 1} (𝓤 : URA M) (H : Heap 𝓤) (A : Atoms 𝓤) (W : Given
         drop ! $ land ! (from ! (stop !)) (init ! 21 refl (LL.lawful Answer′.the-type Answer″.the-laws 𝓤 H A W .typed b _ is′ .0)) $ rewrite ! 21 (λ (u : Val). ‵ (fat fullShare Answer″.mir l₉ 0 u)) (came .0) refl $
         assigns ! (bin ! (load ! (from ! (fld ! refl (stop !))) (look-in ! 21 (sub ! 0 refl (whole !)))) (lit ! tt) tt) (from ! (stop !)) (init ! 13 refl (tt, tt)) $
         into ! $ branches ! (local ! 13 refl)
-        (λ held.
-        let law = mark-lists (reference .now) (name .now) (first .now) (second .now) (plan .now) k (marks .now) (turned-away (lists .number) held) in
+        (λ away.
+        let law = mark-lists (reference .now) (name .now) (first .now) (second .now) (plan .now) k (marks .now) (turned-away (lists .number) away) in
         assigns ! (of-opd ! (local ! 21 refl)) (from ! (stop !)) (init ! 39 refl (LL.lawful Answer′.the-type Answer″.the-laws 𝓤 H A W .typed (refusedAnswer lists) _ (came .1) .0)) $
         move ! (8 ∷ []) $ use1 W (later (‵ (fsep (finally u8 (marks .name) (marks .now)) (feq ℕ (length (marks .now)) (length (marks .now)))))) (goes-slice 𝓤 H A W 6 5 tt (plain (λ _. u8)) κs marks (marks .now) (slice-vals marks) refl) $ await ! tt $ fsplit ! $ move ! (1 ∷ []) $ drop ! $
         -- [the marks' last list; the tokens of the first four; the texts; the others' tokens; the records; _15; …]
         returns-within ! End refl (look ! 39 refl) $ move ! (39 ∷ 40 ∷ 37 ∷ 38 ∷ 35 ∷ 36 ∷ 33 ∷ 34 ∷ 31 ∷ 32 ∷ 29 ∷ 30 ∷ 27 ∷ 28 ∷ 25 ∷ 26 ∷ 23 ∷ 24 ∷ 21 ∷ 22 ∷ 19 ∷ 20 ∷ 17 ∷ 18 ∷ 15 ∷ 16 ∷ 13 ∷ 14 ∷ 11 ∷ 12 ∷ 9 ∷ 10 ∷ []) $
-        gone1 ! $ gone1 ! $ gone1 ! $ gone1 ! $ gone1 ! $ gone1 ! $ gone1 ! $ gone1 ! $ gone1 ! $ gone1 ! $ free1 ! $ gone1 ! $ gone1 ! $ gone1 ! $ free1 ! $ free1 ! $ free0 ! $
+        leaves ! En (held _ ∷ held _ ∷ held _ ∷ held _ ∷ held _ ∷ held _ ∷ held _ ∷ held _ ∷ held _ ∷ held _ ∷ empty ∷ held _ ∷ held _ ∷ held _ ∷ []) $
         keep ! (1 ∷ 2 ∷ 3 ∷ 4 ∷ 6 ∷ 7 ∷ 0 ∷ []) $ by ! (exits 𝓤 H A mem run κs qs a W (refusedAnswer lists) (Answer″.lowered (refusedAnswer lists)) (came .1) (marks .now) refl (sym (law .0), sym (law .1))))
         (λ left. skips ! $ exec ! (𝓣 .C) (𝓣 .Λ) En cm.t-7 (atRet En End) $ answers (read (lists .number) left))))
 

@@ -2,6 +2,7 @@
 -- passed on to `fill_plan`, and what is had of them is what it says. Assumes nothing.
 use mathlib.Core.Bool.{Bool, not}
 use mathlib.Core.List.{List, [], _∷_, _++_}
+use mathlib.Core.Option.{none as empty, some as held}
 use mathlib.Core.Path.{_≡_, refl, sym}
 use Prim.Native.Nat.{ℕ, _<_, _≤_, _^_}
 use native.Mathlib.Omega.{arith}
@@ -22,7 +23,7 @@ use contract.Lifetimes.{Lfts, Shares, toks}
 use contract.Monad.{Fun, factI}
 use contract.Running.{givenOf, tables, tablesOf}
 use types.Kit.{Given, Item, ‵, raw, _⊛_, ⋆, runs, atRet, Sq, _$_, _∵_, !, qed, by, move, keep, drop, use1, use2, split, fjoin, suffices, frame, done}
-use types.Run.{look, init, store, stop, hop, fld, from, load, addr, lit, of-opd, bin, un, and-then, no-more, assigns, land, first, skips, branches, returns, returns-within, enter, alloc1, alloc0, params1, pass1, pass0, free1, free0, exec}
+use types.Run.{look, init, store, stop, hop, fld, from, load, addr, lit, of-opd, bin, un, and-then, no-more, assigns, land, first, skips, branches, returns, returns-within, enter, alloc1, alloc0, params1, pass1, pass0, exec}
 use types.Part.{agg, whole, sub, look-in}
 use sound.WpLaws.{fmOf, WpFn-mono}
 use denote.Builtin.{u8}
@@ -42,7 +43,8 @@ use denote.Triple.Walked.{says, Stays, walkOf, Walks, ends-at, walked, walk-meet
 use Rattle.bases.specs.Put.{put}
 use Rattle.clusters.specs.declared.plan.Cluster.{Cluster}
 use Rattle.clusters.specs.Plan.{planOf}
-use Rattle.clusters.proofs.ByHand.{gone1, lastIn, lastVals, last-out, lastLft, lastShare, token-out, token-in}
+use Rattle.clusters.proofs.ByHand.{tells-values, lastIn, lastVals, last-out, lastLft, lastShare, token-out, token-in}
+use Rattle.clusters.proofs.Leaving.{leaves}
 use Rattle.clusters.proofs.PlanSteps.{R, word, text}
 use Rattle.clusters.proofs.plan.fill_plan as fill-plan
 use Rattle.clusters.proofs.plan.fill_plan.Symbol as fill-plan-def
@@ -52,7 +54,7 @@ use Rattle.card.specs.Answer.{answer}
 use Rattle.card.specs.Plan.{planned, planAfter}
 use Rattle.card.specs.Refusal.{leastRoom}
 use Rattle.card.proofs.AnswerSteps.{turned-away, read}
-use Rattle.card.proofs.CallSteps.{big-lit, tells-values, all-told, told-go, Ends, gives-up}
+use Rattle.card.proofs.CallSteps.{big-lit, all-told, told-go, Ends, gives-up}
 use Rattle.card.proofs.ListSteps.{Refs, vals, Texts, texts, turned, Good, Refused, turns-away, fills}
 use Rattle.card.proofs.Passing.{local}
 use Rattle.card.proofs.PlanLaws.{plan-refused, plan-given}
@@ -155,7 +157,7 @@ module _ {M : Type 1} (𝓤 : URA M) (H : Heap 𝓤) (A : Atoms 𝓤) (W : Given
         Answer″.lowered (Answer″.lowers .val-is) (answer 0 0 0 (length P)) (λ r ws. refl) (and-then ! (local ! 5 refl) (no-more !)) (λ good.
         land ! (from ! (stop !)) (init ! 28 refl (LL.lawful Answer′.the-type Answer″.the-laws 𝓤 H A W .typed (answer 0 0 0 (length P)) _ good .0)) $
         returns ! (look ! 28 refl) $ move ! (28 ∷ 29 ∷ 26 ∷ 27 ∷ 24 ∷ 25 ∷ 22 ∷ 23 ∷ 20 ∷ 21 ∷ 18 ∷ 19 ∷ 16 ∷ 17 ∷ 14 ∷ 15 ∷ 12 ∷ 13 ∷ 10 ∷ 11 ∷ 8 ∷ 9 ∷ 6 ∷ 7 ∷ 4 ∷ 5 ∷ []) $
-        gone1 ! $ gone1 ! $ gone1 ! $ gone1 ! $ gone1 ! $ gone1 ! $ gone1 ! $ gone1 ! $ gone1 ! $ gone1 ! $ gone1 ! $ gone1 ! $ gone1 ! $ free0 ! $ move ! (1 ∷ []) $ drop ! $
+        leaves ! En (held _ ∷ held _ ∷ held _ ∷ held _ ∷ held _ ∷ held _ ∷ held _ ∷ held _ ∷ held _ ∷ held _ ∷ held _ ∷ held _ ∷ held _ ∷ []) $ move ! (1 ∷ []) $ drop ! $
         by ! (exits (answer 0 0 0 (length P)) (put ys 0 P) good (sym (says-so .0)) (sym (says-so .1)))))
 
     starts : Triple 𝓤 (𝓣 .C lists-refused-def.name) (Refused 𝓤 H A mem run) → Triple 𝓤 (𝓣 .C fill-plan-def.name) (Fill 𝓤 H A mem run) → Triple 𝓤 (𝓣 .C give-def.name) (Give 𝓤 H A mem run)
@@ -170,7 +172,7 @@ module _ {M : Type 1} (𝓤 : URA M) (H : Heap 𝓤) (A : Atoms 𝓤) (W : Given
         first ! $ branches ! (local ! 10 refl) (λ taken.
         assigns ! (of-opd ! (local ! 16 refl)) (from ! (stop !)) (init ! 28 refl fine) $
         returns-within ! Post refl (look ! 28 refl) $ move ! (28 ∷ 29 ∷ 26 ∷ 27 ∷ 24 ∷ 25 ∷ 22 ∷ 23 ∷ 20 ∷ 21 ∷ 18 ∷ 19 ∷ 16 ∷ 17 ∷ 14 ∷ 15 ∷ 12 ∷ 13 ∷ 10 ∷ 11 ∷ 8 ∷ 9 ∷ 6 ∷ 7 ∷ 4 ∷ 5 ∷ []) $
-        gone1 ! $ gone1 ! $ gone1 ! $ gone1 ! $ gone1 ! $ gone1 ! $ gone1 ! $ free1 ! $ gone1 ! $ gone1 ! $ free1 ! $ free1 ! $ free1 ! $ free0 ! $ move ! (3 ∷ []) $ use1 W (‵ (Ends R x ys)) (gives-up 𝓤 H A W (named 4) κ R x (slice-vals x)) $
+        leaves ! En (held _ ∷ held _ ∷ held _ ∷ held _ ∷ held _ ∷ held _ ∷ held _ ∷ empty ∷ held _ ∷ held _ ∷ []) $ move ! (3 ∷ []) $ use1 W (‵ (Ends R x ys)) (gives-up 𝓤 H A W (named 4) κ R x (slice-vals x)) $
         move ! (1 ∷ 3 ∷ 0 ∷ []) $ keep ! (0 ∷ 1 ∷ 2 ∷ []) $
         by ! (let says-so = plan-refused (xs .0 .now) (xs .1 .0 .now) (xs .1 .1 .0 .now) (xs .1 .1 .1 .0 .now) ys (turned-away (refused .number) taken) in exits refused ys good (sym (says-so .0)) (sym (says-so .1))))
         (λ left. skips ! $ exec ! (𝓣 .C) (𝓣 .Λ) En cm.t-6 (atRet En Post) $ given known-fill known-give (read (refused .number) left)))

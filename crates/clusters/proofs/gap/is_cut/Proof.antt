@@ -3,7 +3,7 @@ use mathlib.Core.Path.{sym}
 use native.Mathlib.Omega.{arith}
 use borrow.Author.Needs.{needs}
 use Rattle.bases.specs.Letter.{basesOf}
-use Rattle.clusters.proofs.GapLaws.{cut-behind, cut-bases}
+use Rattle.clusters.proofs.GapLaws.{cut-read, cut-behind}
 use Rattle.clusters.proofs.gap.is_cut.Statement.{statement}
 use Rattle.clusters.proofs.gap.is_cut.Tie as tie
 
@@ -27,7 +27,7 @@ returns-2 c =
     let r = c .before .before .before .before .before .args .reference .now in
     let cur = c .before .before .before .before .before .args .current in
     let p = c .before .before .before .before .before .args .start in
-    cc (cut-bases r cur p (omega arith) (omega arith))
+    cut-read r cur p (omega arith) (omega arith) (c .before .before .reach-of .ensures) (c .has-any-period .ensures)
 
 pub is-cut-spec : {M : Type 1} → statement M
 is-cut-spec =

@@ -5,6 +5,7 @@ use mathlib.Core.Path.{_≡_, refl, sym, ap, _∙_}
 use mathlib.Core.Bool.{Bool, _&&_}
 use mathlib.Core.List.{List, [], _∷_, _++_}
 use mathlib.Core.Logic.{⊎-elim}
+use mathlib.Core.Option.{none as empty, some as held}
 use mathlib.Core.WellFounded.{WellFounded, InvImage·wf}
 use Prim.Native.Nat.{ℕ, _<_, _≤_, _^_, _+_, _-_, _*_, zero-le}
 use native.Mathlib.Nat.{eq-or-lt-of-le}
@@ -27,7 +28,7 @@ use contract.Lifetimes.{Lfts, Shares, toks}
 use contract.Monad.{Fun}
 use contract.Running.{givenOf, tables, tablesOf}
 use types.Kit.{Given, Item, ‵, raw, _⊛_, ⋆, runs, anyQ, atRet, Sq, _$_, _∵_, !, qed, by, move, drop, use1, use2, split, rewrite, fsplit, feqI, suffices, frame, done}
-use types.Run.{look, init, store, look-raw, forget, stop, hop, fld, from, load, lit, true-lit, of-opd, bin, and-then, no-more, assigns, assigns-last, land, first, blocks, stays, leaves-loop, returns, enter, alloc1, alloc0, params1, pass1, pass0, free1, free0, exec, Below, again, loops}
+use types.Run.{look, init, store, look-raw, forget, stop, hop, fld, from, load, lit, true-lit, of-opd, bin, and-then, no-more, assigns, assigns-last, land, first, blocks, stays, leaves-loop, returns, enter, alloc1, alloc0, params1, pass1, pass0, exec, Below, again, loops}
 use types.Part.{whole, sub, look-in}
 use sound.WpLaws.{WpFn-mono}
 use denote.RattleType.{RattleType, owns}
@@ -48,7 +49,8 @@ use denote.Triple.Walked.{says, needs, Stays, stay-none-slice, walkOf, goes-none
 use denote.Exit.{yes}
 use Rattle.clusters.specs.declared.plan.Cluster.{Cluster}
 use Rattle.clusters.specs.Lent.{sameCluster?, isPlan?}
-use Rattle.clusters.proofs.ByHand.{gone1, lastIn, lastVals, last-out, last-in, lastLft, lastShare, token-out, token-in}
+use Rattle.clusters.proofs.ByHand.{lastIn, lastVals, last-out, last-in, lastLft, lastShare, token-out, token-in}
+use Rattle.clusters.proofs.Leaving.{leaves}
 use Rattle.clusters.proofs.LentLaws.{and-and, is-plan-none, is-plan-next}
 use Rattle.clusters.proofs.PlanSteps.{R, none, word, text, First, Next, Refs, P, Asked, step-at, Good, stands, over, vals, Texts, texts, begins, goes-on}
 use Rattle.clusters.proofs.plan.Cluster as Cluster′
@@ -183,7 +185,7 @@ module _ {M : Type 1} (𝓤 : URA M) (H : Heap 𝓤) (A : Atoms 𝓤) (W : Given
         leaves-loop ! (load ! (from ! (stop !)) (look ! 14 refl)) $ exec ! (𝓣 .C) (𝓣 .Λ) En cm.t-5 (atRet En Post) $
         assigns ! (of-opd ! (load ! (from ! (stop !)) (look ! 20 refl))) (from ! (stop !)) (init ! 32 refl (tt, tt)) $
         returns ! (look ! 32 refl) $ move ! (32 ∷ 33 ∷ 30 ∷ 31 ∷ 28 ∷ 29 ∷ 26 ∷ 27 ∷ 24 ∷ 25 ∷ 22 ∷ 23 ∷ 20 ∷ 21 ∷ 18 ∷ 19 ∷ 16 ∷ 17 ∷ 14 ∷ 15 ∷ 12 ∷ 13 ∷ 10 ∷ 11 ∷ 8 ∷ 9 ∷ 6 ∷ 7 ∷ 4 ∷ 5 ∷ []) $
-        gone1 ! $ gone1 ! $ gone1 ! $ gone1 ! $ gone1 ! $ gone1 ! $ gone1 ! $ gone1 ! $ free1 ! $ gone1 ! $ free1 ! $ free1 ! $ free1 ! $ free1 ! $ free1 ! $ free0 ! $ move ! (0 ∷ 2 ∷ []) $
+        leaves ! En (held _ ∷ held _ ∷ held _ ∷ held _ ∷ held _ ∷ held _ ∷ held _ ∷ held _ ∷ empty ∷ held _ ∷ []) $ move ! (0 ∷ 2 ∷ []) $
         by ! (exits (same (i .0)) (ap same all ∙ ap (λ (p : List Cluster). isPlan? p ys) (take-length (P xs))))
 
     turns : (i : Upto) → Sq W (At i) (runs (𝓣 .C) (𝓣 .Λ) En cm.turn-1 (anyQ (Turned i)))

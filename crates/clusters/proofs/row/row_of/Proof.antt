@@ -2,6 +2,7 @@
 use mathlib.Core.Path.{ap}
 use borrow.Author.Needs.{needs}
 use Rattle.bases.specs.declared.place.Place.{Place}
+use Rattle.clusters.proofs.RowLaws.{row-is}
 use Rattle.clusters.proofs.row.row_of.Statement.{statement}
 use Rattle.clusters.proofs.row.row_of.Tie as tie
 
@@ -15,7 +16,7 @@ stand-of-requires-2 : tie.Need-stand-of-requires-2
 stand-of-requires-2 c κs = ap (λ (p : Place). p .0) (c .before .before .place-of .ensures)
 
 returns : tie.Need-returns
-returns c = cc (ap (λ (p : Place). p .0) (c .before .before .before .place-of .ensures))
+returns c = row-is (c .before .before .before .before .before .before .args .item) (c .before .before .before .place-of .ensures) (c .before .stand-of .ensures) (c .stand-of2 .ensures)
 
 pub row-of-spec : {M : Type 1} → statement M
 row-of-spec = tie.close (tie.spec place-of-requires stand-of-requires stand-of-requires-2 returns)

@@ -2,14 +2,15 @@
 use mathlib.Core.Path.{_≡_}
 use Prim.Native.Nat.{suc, _-_}
 use native.Mathlib.Omega.{arith}
+use Rattle.clusters.proofs.RowLaws.{stand-ref, stand-first}
 use Rattle.clusters.proofs.row.stand_of.Statement.{statement}
 use Rattle.clusters.proofs.row.stand_of.Tie as tie
 
 returns : tie.Need-returns
-returns c = cc
+returns c = stand-ref (c .before .before .args .entry) (c .before .before .pre) (c .before .if1 .taken)
 
 returns-2 : tie.Need-returns-2
-returns-2 c = cc
+returns-2 c = stand-first (c .before .before .before .args .entry) (c .before .if2 .taken)
 
 returns-3 : tie.Need-returns-3
 returns-3 c =

@@ -1,5 +1,6 @@
 -- `clusters::row::widened` meets its contract. Assumes nothing.
 use borrow.Author.Needs.{needs}
+use Rattle.clusters.proofs.RowLaws.{stretch-is}
 use Rattle.clusters.proofs.row.widened.Statement.{statement}
 use Rattle.clusters.proofs.row.widened.Tie as tie
 
@@ -17,7 +18,7 @@ larger-requires c κs = search needs
 
 -- src/row.rt:121:1
 returns : tie.Need-returns
-returns c = cc
+returns c = stretch-is (c .before .before .before .args .stretch) (c .before .before .before .args .row) (c .before .before .smaller .ensures) (c .larger .ensures)
 
 pub widened-spec : {M : Type 1} → statement M
 widened-spec = tie.close (tie.spec smaller-requires add-larger larger-requires returns)

@@ -1,0 +1,48 @@
+-- The call `count` computed, on the lists of example 9: in merged order their entries are of list 2, of list 1 and of list 2.
+--     each-list      `+`, `0`, `?`: each is counted in the list of its entry, and what stands behind them is not
+--     no-mark        a byte that is no mark is counted nowhere
+--     too-few        with one byte fewer the call is refused
+-- Assumes nothing.
+use mathlib.Core.List.{List, [], _∷_}
+use mathlib.Core.Path.{_≡_, refl}
+use Prim.Native.Nat.{ℕ}
+use lib.ListN.{replicate}
+use Rattle.bases.specs.Letter.{among?, letterOf, allLetters?}
+use Rattle.bases.specs.Same.{agree?}
+use Rattle.clusters.specs.Counts.{howMany, ownMarks}
+use Rattle.clusters.specs.Merged.{weave, merged}
+use Rattle.matching.specs.Cut.{join}
+use Rattle.vcf.specs.Allele.{altsWrong?}
+use Rattle.vcf.specs.Bytes.{until}
+use Rattle.vcf.specs.Entry.{headerBytes, entriesFrom}
+use Rattle.vcf.specs.Field.{full?, skip}
+use Rattle.vcf.specs.Genotype.{copiesWrong?}
+use Rattle.vcf.specs.Header.{headerWrong?}
+use Rattle.vcf.specs.List.{linesOf, judgeLines, judgeText}
+use Rattle.vcf.specs.Pos.{allDigits?, isPos?, valueFrom}
+use Rattle.vcf.specs.Row.{firstRow}
+use Rattle.card.specs.declared.count.Counted.{Counted}
+use Rattle.card.specs.Answer.{answer}
+use Rattle.card.specs.Count.{countedOf, noCounts, counted}
+use Rattle.card.specs.Examples.{A, C, G, T, name, hom, text, plus, zero, question}
+use Rattle.card.specs.Refusal.{firstRefusal}
+
+-- What is answered for these marks.
+abbrev of : List ℕ → Counted
+of marks =
+    counted (T ∷ G ∷ C ∷ C ∷ G ∷ T ∷ []) name (text (hom 2 (G ∷ C ∷ C ∷ G ∷ []) (C ∷ C ∷ G ∷ A ∷ []) ∷ []))
+    (text (hom 1 (T ∷ G ∷ []) (T ∷ []) ∷ hom 5 (G ∷ []) (G ∷ A ∷ []) ∷ [])) marks
+
+pub each-list : of (plus ∷ zero ∷ question ∷ replicate 1021 plus)
+    ≡ countedOf (answer 0 0 0 0) (record { first = record { matched = 0; unmatched = 1; undecided = 0 }; second = record { matched = 1; unmatched = 0; undecided = 1 } })
+unfolding among? letterOf allLetters? agree? weave merged join altsWrong? until headerBytes entriesFrom full? skip copiesWrong? headerWrong? linesOf judgeLines judgeText allDigits? isPos? valueFrom firstRow howMany ownMarks firstRefusal
+each-list = refl
+
+pub no-mark : of (T ∷ zero ∷ plus ∷ replicate 1021 plus)
+    ≡ countedOf (answer 0 0 0 0) (record { first = record { matched = 0; unmatched = 1; undecided = 0 }; second = record { matched = 1; unmatched = 0; undecided = 0 } })
+unfolding among? letterOf allLetters? agree? weave merged join altsWrong? until headerBytes entriesFrom full? skip copiesWrong? headerWrong? linesOf judgeLines judgeText allDigits? isPos? valueFrom firstRow howMany ownMarks firstRefusal
+no-mark = refl
+
+pub too-few : of (plus ∷ zero ∷ question ∷ replicate 1020 plus) ≡ countedOf (answer 2 0 0 0) noCounts
+unfolding among? letterOf allLetters? firstRefusal
+too-few = refl
