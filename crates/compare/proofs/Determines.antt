@@ -8,37 +8,14 @@ use denote.Ref.{now}
 use Rattle.bases.proofs.Determines.{OneResult, OneLeft}
 use Rattle.compare.proofs.compared.compare_text.Kinds as compare-text-kinds
 use Rattle.compare.proofs.compared.compare_text.Reads as compare-text
-use Rattle.compare.proofs.count.count_all.Kinds as count-all-kinds
-use Rattle.compare.proofs.count.count_all.Reads as count-all
-use Rattle.compare.proofs.field.put_field.Kinds as put-field-kinds
-use Rattle.compare.proofs.field.put_field.Reads as put-field
-use Rattle.compare.proofs.field.put_fields.Kinds as put-fields-kinds
-use Rattle.compare.proofs.field.put_fields.Reads as put-fields
 use Rattle.compare.proofs.line.put_entry.Kinds as put-entry-kinds
 use Rattle.compare.proofs.line.put_entry.Reads as put-entry
 use Rattle.compare.proofs.line.put_heading.Kinds as put-heading-kinds
 use Rattle.compare.proofs.line.put_heading.Reads as put-heading
 use Rattle.compare.proofs.line.put_total.Kinds as put-total-kinds
 use Rattle.compare.proofs.line.put_total.Reads as put-total
-use Rattle.compare.proofs.line.refused_text.Kinds as refused-text-kinds
-use Rattle.compare.proofs.line.refused_text.Reads as refused-text
 use Rattle.compare.proofs.text.make_text.Kinds as make-text-kinds
 use Rattle.compare.proofs.text.make_text.Reads as make-text
-
-pub count-all-determines : OneResult 1 count-all-kinds.ps count-all-kinds.r count-all.Post
-count-all-determines κs a z z′ e e′ p q = p ∙ sym q
-
-pub put-field-determines : OneResult 1 put-field-kinds.ps put-field-kinds.r put-field.Post
-put-field-determines κs a z z′ e e′ p q = p .0 ∙ sym (q .0)
-
-pub put-field-leaves : OneLeft 1 put-field-kinds.ps put-field-kinds.r put-field.Post (List ℕ) (λ κs e. now (e .1 .1 .0))
-put-field-leaves κs a z z′ e e′ p q = p .1 ∙ sym (q .1)
-
-pub put-fields-determines : OneResult 1 put-fields-kinds.ps put-fields-kinds.r put-fields.Post
-put-fields-determines κs a z z′ e e′ p q = p .0 ∙ sym (q .0)
-
-pub put-fields-leaves : OneLeft 1 put-fields-kinds.ps put-fields-kinds.r put-fields.Post (List ℕ) (λ κs e. now (e .1 .1 .1 .1 .0))
-put-fields-leaves κs a z z′ e e′ p q = p .1 ∙ sym (q .1)
 
 pub put-entry-determines : OneResult 1 put-entry-kinds.ps put-entry-kinds.r put-entry.Post
 put-entry-determines κs a z z′ e e′ p q = p .0 ∙ sym (q .0)
@@ -57,12 +34,6 @@ put-total-determines κs a z z′ e e′ p q = p .0 ∙ sym (q .0)
 
 pub put-total-leaves : OneLeft 1 put-total-kinds.ps put-total-kinds.r put-total.Post (List ℕ) (λ κs e. now (e .1 .1 .0))
 put-total-leaves κs a z z′ e e′ p q = p .1 ∙ sym (q .1)
-
-pub refused-text-determines : OneResult 1 refused-text-kinds.ps refused-text-kinds.r refused-text.Post
-refused-text-determines κs a z z′ e e′ p q = p .0 ∙ sym (q .0)
-
-pub refused-text-leaves : OneLeft 1 refused-text-kinds.ps refused-text-kinds.r refused-text.Post (List ℕ) (λ κs e. now (e .1 .1 .1 .0))
-refused-text-leaves κs a z z′ e e′ p q = p .1 ∙ sym (q .1)
 
 pub make-text-determines : OneResult 4 make-text-kinds.ps make-text-kinds.r make-text.Post
 make-text-determines κs a z z′ e e′ p q = p .0 ∙ sym (q .0)

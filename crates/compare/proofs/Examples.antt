@@ -3,6 +3,7 @@
 use mathlib.Core.List.{List, [], _∷_}
 use mathlib.Core.Path.{_≡_, refl}
 use Prim.Native.Nat.{ℕ}
+use Rattle.clusters.specs.Counts.{howMany, ownMarks}
 use Rattle.compare.specs.Compared.{comparedText}
 use Rattle.bases.specs.Letter.{among?, letterOf, allLetters?}
 use Rattle.bases.specs.Period.{anyPeriod?}
@@ -29,7 +30,6 @@ use Rattle.vcf.specs.Header.{headerWrong?}
 use Rattle.vcf.specs.List.{linesOf, judgeLines, judgeText}
 use Rattle.vcf.specs.Pos.{allDigits?, valueFrom, isPos?}
 use Rattle.vcf.specs.Row.{firstRow}
-use Rattle.compare.specs.Counts.{howMany, ownMarks}
 use Rattle.compare.specs.Printed.{numbersFrom, entryLines}
 
 -- GCATATG

@@ -1,12 +1,9 @@
 pub mod AcceptedText
 pub mod ComparedLaws
-pub mod CountLaws
 pub mod Determines
 pub mod Examples
-pub mod FieldLaws
 pub mod LinesLaws
 pub mod MarkedLaws
+pub mod PrintedLaws
 pub mod ReadLaws
-pub mod RefusedText
 pub mod TextLaws
-pub mod WroteLaws

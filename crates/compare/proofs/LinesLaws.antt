@@ -16,14 +16,12 @@ use lib.Seq.{drop-cons}
 use Rattle.bases.specs.Put.{put}
 use Rattle.clusters.specs.declared.heads.Heads.{Heads}
 use Rattle.clusters.specs.declared.item.Item.{Item}
-use Rattle.clusters.specs.Heads.{itemsFrom, done?, nextItem, moved, passed}
+use Rattle.clusters.specs.Heads.{Readable, itemsFrom, done?, nextItem, moved, passed}
 use Rattle.clusters.specs.Merged.{posOf}
-use Rattle.clusters.proofs.HeadsLaws.{items-step, passed-next}
+use Rattle.clusters.proofs.HeadsLaws.{items-some, items-step, readable-moved, passed-next}
+use Rattle.lines.proofs.WroteLaws.{Wrote, Left, left-begin, left-then, left-end}
 use Rattle.compare.specs.Printed.{entryLine, entryLines, lineMost}
-use Rattle.compare.specs.Readable.{Readable}
-use Rattle.compare.proofs.FieldLaws.{line-few}
-use Rattle.compare.proofs.ReadLaws.{readable-moved, some-left}
-use Rattle.compare.proofs.WroteLaws.{Wrote, Left, left-begin, left-then, left-end}
+use Rattle.compare.proofs.PrintedLaws.{line-few}
 
 pub lines-few : (ks : List ℕ) (is : List Item) (ms : List ℕ) → length (entryLines ks is ms) ≤ lineMost * length ks
 unfolding entryLines
@@ -108,7 +106,7 @@ module _ (first second marks : List ℕ) (cluster count i : ℕ) (start : Heads)
 
     module _ (less : k < count) where
       pub putting-left : done? first second h ≡ false
-      putting-left = some-left first second h (omega (arith, w .few))
+      putting-left = items-some first second h (omega (arith, w .few))
 
       pub putting-more : i + count ≤ length marks → (r : ℕ) (e : List ℕ)
           → Wrote out at (entryLine (nextItem first second h .side) (posOf (nextItem first second h)) cluster (getD marks (i + k) 0)) r e

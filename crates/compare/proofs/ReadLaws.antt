@@ -1,12 +1,11 @@
 -- Laws of a walk over the records of two lists.
---     readable-moved, readable-passed     what the walk leans on stays so behind the next record, and behind the next n
---     some-left                           where an entry is left, the walk is not done
---     pos-le, next-pos                    a POS is at most the largest
+--     readable-passed     what the walk leans on stays so behind the next n
+--     pos-le, next-pos    a POS is at most the largest
 -- Assumes nothing.
 use mathlib.Core.Bool.{Bool, true, false, not, _&&_}
 use mathlib.Core.List.{List, [], _∷_}
 use mathlib.Core.Path.{_≡_, refl, ap}
-use Prim.Native.Nat.{ℕ, zero, suc, _≤_, _<_}
+use Prim.Native.Nat.{ℕ, zero, suc, _≤_}
 use native.Mathlib.Omega.{arith}
 use lib.Dec.{eqb, leb, leb→le}
 use lib.ListN.{length, getD}
@@ -14,18 +13,15 @@ use Rattle.bases.specs.Letter.{pick}
 use Rattle.bases.proofs.TestLaws.{both, of-true}
 use Rattle.clusters.specs.declared.heads.Heads.{Heads}
 use Rattle.clusters.specs.declared.item.Item.{Item}
-use Rattle.clusters.specs.Heads.{entriesAt, cursor, itemsFrom, done?, nextItem, moved, passed}
-use Rattle.clusters.specs.Item.{textOf}
+use Rattle.clusters.specs.Heads.{Readable, entriesAt, itemsFrom, done?, nextItem, moved, passed}
 use Rattle.clusters.specs.Merged.{posOf, itemOf, itemsOf}
-use Rattle.clusters.proofs.HeadsLaws.{items-none, items-step}
+use Rattle.clusters.proofs.HeadsLaws.{items-some, items-step, readable-moved}
 use Rattle.clusters.proofs.MergedLaws.{all-map, merged-all}
 use Rattle.donors.specs.Apart.{All}
 use Rattle.donors.specs.Rules.{list1, list2}
 use Rattle.vcf.specs.declared.entry.Entry.{Entry}
 use Rattle.vcf.specs.Entry.{entriesFrom}
 use Rattle.vcf.specs.Pos.{allDigits?, valueFrom, largestPos, isPos?, readPos}
-use Rattle.vcf.proofs.EntryLaws.{readable-next}
-use Rattle.compare.specs.Readable.{Readable}
 
 pub pos-le : (f : List ℕ) → readPos f ≤ largestPos
 unfolding isPos?
@@ -43,24 +39,13 @@ entries-pos a [] = tt
 entries-pos a (l ∷ ls) = (pos-le _, entries-pos _ ls)
 
 module _ (first second : List ℕ) where
-  pub readable-moved : (h : Heads) → Readable first second h → (j : Bool) → cursor h j < length (textOf j first second) → Readable first second (moved first second h j)
-  readable-moved h r true k = record { readable1 = readable-next first (h .at1) k (r .readable1); readable2 = r .readable2 }
-  readable-moved h r false k = record { readable1 = r .readable1; readable2 = readable-next second (h .at2) k (r .readable2) }
-
-  pub some-left : (h : Heads) → 1 ≤ length (itemsFrom first second h) → done? first second h ≡ false
-  some-left h k = go (done? first second h) refl
-    where
-      go : (t : Bool) → done? first second h ≡ t → t ≡ false
-      go true e = absurd (omega (arith, ap length (items-none first second h e)))
-      go false e = refl
-
   pub readable-passed : (n : ℕ) (h : Heads) → Readable first second h → n ≤ length (itemsFrom first second h) → Readable first second (passed first second n h)
   unfolding passed
   readable-passed zero h r k = r
   readable-passed (suc n) h r k =
-      let s = items-step first second h (some-left h (omega arith)) in
+      let s = items-step first second h (items-some first second h (omega arith)) in
       let j = nextItem first second h .side in
-      readable-passed n (moved first second h j) (readable-moved h r j (s .inside)) (omega (arith, ap length (s .split)))
+      readable-passed n (moved first second h j) (readable-moved first second h r j (s .inside)) (omega (arith, ap length (s .split)))
 
   items-pos : (h : Heads) → All (λ (i : Item). posOf i ≤ largestPos) (itemsFrom first second h)
   items-pos h =

@@ -15,20 +15,20 @@ use native.Mathlib.Omega.{arith}
 use lib.ListN.{length, getD, take, drop, replicate, length-append, length-drop, length-replicate}
 use lib.Seq.{drop-cons, drop-drop, drop-length, getD-take, length-take-le}
 use Rattle.bases.specs.Put.{put}
+use Rattle.clusters.specs.declared.count.Counts.{Counts}
 use Rattle.clusters.specs.declared.heads.Heads.{Heads}
 use Rattle.clusters.specs.declared.item.Item.{Item}
 use Rattle.clusters.specs.declared.plan.Cluster.{Cluster}
-use Rattle.clusters.specs.Heads.{startHeads, itemsFrom, passed}
+use Rattle.clusters.specs.Counts.{countsOf, totals, mostEntries}
+use Rattle.clusters.specs.Heads.{Readable, startHeads, itemsFrom, passed}
 use Rattle.clusters.specs.Merged.{mergedItems}
+use Rattle.clusters.proofs.CountLaws.{counts-marks}
 use Rattle.clusters.proofs.HeadsLaws.{passed-items}
-use Rattle.compare.specs.Counts.{Counts, countsOf, totals, mostEntries}
+use Rattle.lines.proofs.WroteLaws.{Wrote, wrote-then, Left, left-begin, left-then}
 use Rattle.compare.specs.Printed.{heading, numbersFrom, entryLines, lineMost, totalLine, totalMost, printedText, textMost}
-use Rattle.compare.specs.Readable.{Readable}
-use Rattle.compare.proofs.CountLaws.{counts-marks}
-use Rattle.compare.proofs.FieldLaws.{total-few}
+use Rattle.compare.proofs.PrintedLaws.{total-few}
 use Rattle.compare.proofs.LinesLaws.{lines-few, lines-split, lines-marks}
 use Rattle.compare.proofs.ReadLaws.{readable-passed}
-use Rattle.compare.proofs.WroteLaws.{Wrote, wrote-then, Left, left-begin, left-then}
 
 numbers-next : (plan : List Cluster) (k : ℕ) (d : Cluster) → k < length plan
     → numbersFrom k (drop k plan) ≡ replicate (getD plan k d .count) k ++ numbersFrom (k + 1) (drop (k + 1) plan)

@@ -1,5 +1,3 @@
 pub mod Compared
-pub mod Counts
 pub mod Makes
 pub mod Printed
-pub mod Readable

@@ -1,18 +1,17 @@
 -- What compare prints. Document 01: the heading; one line an entry in merged order, with its list, its POS as read, its cluster from 0 and its mark; the
--- total line, with the entries marked `+` or `-`, those marked `0`, those marked `?`, and the score. On refusal the only line is `refused`, number,
--- list, line. Fields are TAB-separated.
+-- total line, with the entries marked `+` or `-`, those marked `0`, those marked `?`, and the score. Fields are TAB-separated.
 -- Assumes nothing: these are definitions.
 use mathlib.Core.Bool.{Bool, true, false}
 use mathlib.Core.List.{List, [], _∷_, _++_}
 use Prim.Native.Nat.{ℕ, _+_, _*_}
 use lib.ListN.{length, replicate}
+use Rattle.clusters.specs.declared.count.Count.{Count}
 use Rattle.clusters.specs.declared.item.Item.{Item}
 use Rattle.clusters.specs.declared.plan.Cluster.{Cluster}
+use Rattle.clusters.specs.Counts.{mostEntries, countsOf, totals}
 use Rattle.clusters.specs.Merged.{posOf}
-use Rattle.normal.specs.Written.{digitsOf}
 use Rattle.vcf.specs.Bytes.{LF, TAB}
-use Rattle.compare.specs.declared.count.Count.{Count}
-use Rattle.compare.specs.Counts.{mostEntries, countsOf, totals}
+use Rattle.lines.specs.Lines.{field, fieldMost, fields, fieldsMost}
 
 -- list POS cluster mark, TAB-separated, and the LF
 abbrev pub heading : List ℕ
@@ -23,27 +22,6 @@ heading =
 -- total, with the TAB behind it
 abbrev pub totalWord : List ℕ
 totalWord = 116 ∷ 111 ∷ 116 ∷ 97 ∷ 108 ∷ 9 ∷ []
-
--- refused, with the TAB behind it
-abbrev pub refusedWord : List ℕ
-refusedWord = 114 ∷ 101 ∷ 102 ∷ 117 ∷ 115 ∷ 101 ∷ 100 ∷ 9 ∷ []
-
--- A number in decimal, of at most seven digits; and the largest that is printed so.
-abbrev pub mostDigits : ℕ
-mostDigits = 7
-
-abbrev pub number : ℕ → List ℕ
-number n = digitsOf mostDigits n
-
-abbrev pub largestNumber : ℕ
-largestNumber = 6553599
-
--- A number and the byte behind it; three numbers, with TABs between, and the byte behind them.
-abbrev pub field : ℕ → ℕ → List ℕ
-field n end = number n ++ (end ∷ [])
-
-abbrev pub fields : ℕ → ℕ → ℕ → ℕ → List ℕ
-fields a b c end = field a TAB ++ field b TAB ++ field c end
 
 -- The number of a list (`side`: list 1).
 abbrev pub listNumber : Bool → ℕ
@@ -74,25 +52,12 @@ totalLine c score = totalWord ++ fields (c .matched) (c .unmatched) (c .undecide
 abbrev pub printedText : List Cluster → List Item → List ℕ → ℕ → List ℕ
 printedText plan is ms score = heading ++ entryLines (numbersFrom 0 plan) is ms ++ totalLine (totals (countsOf is ms)) score
 
--- The text for a refusal.
-abbrev pub refusedText : ℕ → ℕ → ℕ → List ℕ
-refusedText n list line = refusedWord ++ fields n list line LF
-
--- The most bytes that a field, three fields, a line and a text have.
-abbrev pub fieldMost : ℕ
-fieldMost = mostDigits + 1
-
-abbrev pub fieldsMost : ℕ
-fieldsMost = 3 * fieldMost
-
+-- The most bytes that an entry's line, the total line and a text have.
 abbrev pub lineMost : ℕ
 lineMost = fieldsMost + 2
 
 abbrev pub totalMost : ℕ
 totalMost = length totalWord + fieldsMost + fieldMost
-
-abbrev pub refusedMost : ℕ
-refusedMost = length refusedWord + fieldsMost
 
 abbrev pub textMost : ℕ
 textMost = length heading + lineMost * mostEntries + totalMost

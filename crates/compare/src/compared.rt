@@ -5,23 +5,18 @@ ghost use lib.ListN.{length};
 ghost use Rattle.bases.specs.Put.{put};
 ghost use Rattle.compare.specs.Compared.{comparedText};
 ghost use Rattle.compare.specs.Printed.{textMost};
-use crate::line::refused_text;
 use crate::text::MOST_ENTRIES;
 use crate::text::make_text;
-use card::all::marked_lists;
-use files::file::ends_in_lf;
+use lines::refused::refused_text;
+use told::marked::mark_files;
 
 // Writes what is printed for a reference file and two lists at the start of the room, and says how many bytes that is.
 pub fn compare_text(file: &[u8], first: &[u8], second: &[u8], out: &mut [u8]) -> usize
     requires { ⌜ textMost ≤ length (now out) ⌝ }
     ensures { λ r. ⌜ (r ≡ length (comparedText (now (file .entry)) (now (first .entry)) (now (second .entry)))) × (now (out .exit) ≡ put (now (out .entry)) 0 (comparedText (now (file .entry)) (now (first .entry)) (now (second .entry)))) ⌝ }
 {
-    if !ends_in_lf(file) {
-        return refused_text(1, 0, 0, out);
-    }
-    let n = file.len() - 1;
     let mut marks = [0u8; MOST_ENTRIES];
-    let marked = marked_lists(&file[..n], b"chr1", first, second, &mut marks);
+    let marked = mark_files(file, first, second, &mut marks);
     let answer = marked.answer;
     if answer.number != 0 {
         return refused_text(

@@ -3,13 +3,14 @@ ghost use mathlib.Core.Path.{_≡_};
 ghost use Prim.Native.Nat.{_+_, _≤_};
 ghost use lib.ListN.{length};
 ghost use Rattle.bases.specs.Put.{put};
-ghost use Rattle.compare.specs.Counts.{Few};
-ghost use Rattle.compare.specs.Printed.{largestNumber, heading, listNumber, entryLine, lineMost, totalLine, totalMost, refusedText, refusedMost};
-use crate::count::Count;
-use crate::field::put_field;
-use crate::field::put_fields;
+ghost use Rattle.clusters.specs.Counts.{Few};
+ghost use Rattle.lines.specs.Lines.{largestNumber};
+ghost use Rattle.compare.specs.Printed.{heading, listNumber, entryLine, lineMost, totalLine, totalMost};
 use bases::put::put_byte;
 use bases::put::put_bytes;
+use clusters::count::Count;
+use lines::field::put_field;
+use lines::field::put_fields;
 use vcf::bytes::LF;
 use vcf::bytes::TAB;
 
@@ -60,13 +61,4 @@ pub fn put_total(totals: Count, score: usize, out: &mut [u8], at: usize) -> usiz
         a,
     );
     put_field(score, LF, out, b)
-}
-
-// Writes the text for a refusal at the start of the room.
-pub fn refused_text(number: usize, list: usize, line: usize, out: &mut [u8]) -> usize
-    requires { ⌜ (number ≤ largestNumber) × (list ≤ largestNumber) × (line ≤ largestNumber) × (refusedMost ≤ length (now out)) ⌝ }
-    ensures { λ r. ⌜ (r ≡ length (refusedText number list line)) × (now (out .exit) ≡ put (now (out .entry)) 0 (refusedText number list line)) ⌝ }
-{
-    let next = put_bytes(b"refused\t", out, 0);
-    put_fields(number, list, line, LF, out, next)
 }

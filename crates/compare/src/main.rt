@@ -1,7 +1,5 @@
 // The program compare: reads reference.txt, first.vcf and second.vcf, and prints what the card says of them. The contracts cite specs/.
 mod compared;
-mod count;
-mod field;
 mod line;
 mod text;
 

@@ -1,18 +1,19 @@
--- What normalise answers for the bytes of its two files: reference.txt (bases, then one LF) and first.vcf, name `chr1`. Document 01: a reference file that
--- does not end in LF is refused with 1.
+-- What normalise prints for the bytes of its two files: reference.txt (bases, then one LF) and first.vcf, name `chr1`. Document 01: a file that can't be
+-- read counts as empty; a reference file that does not end in LF is refused with 1.
 -- Assumes nothing: these are definitions.
-use mathlib.Core.List.{List}
+use mathlib.Core.Bool.{false}
+use mathlib.Core.List.{List, _∷_}
 use Prim.Native.Nat.{ℕ}
-use Rattle.card.specs.declared.answer.Answer.{Answer}
-use Rattle.card.specs.Allele.{pickList}
-use Rattle.card.specs.Answer.{answer, pickAnswer}
-use Rattle.card.specs.Normal.{written, normalAfter}
-use Rattle.files.specs.File.{chromName, endsInLf?, basesOfFile}
+use Rattle.card.specs.declared.refusal.Refusal.{Refusal}
+use Rattle.card.specs.Refusal.{firstRefusal, listChecks}
+use Rattle.files.specs.File.{chromName, basesOfFile}
+use Rattle.normal.specs.Written.{writtenText}
+use Rattle.told.specs.Told.{fileCheck, toldText}
 
--- What the call `normal` answers on the bases of the file, or refusal 1.
-abbrev pub normalisedAnswer : List ℕ → List ℕ → ℕ → Answer
-normalisedAnswer file text room = pickAnswer (endsInLf? file) (written (basesOfFile file) chromName text room) (answer 1 0 0 0)
+-- Why the files are refused: 1, also where the reference file does not end in LF; the list's rows. The room is never too small.
+abbrev pub listRefusal : List ℕ → List ℕ → Refusal
+listRefusal file text = firstRefusal (fileCheck file ∷ listChecks (basesOfFile file) chromName text false)
 
--- The room afterwards: what that call leaves there, or what it was.
-abbrev pub normalisedAfter : List ℕ → List ℕ → List ℕ → List ℕ
-normalisedAfter file text out = pickList (endsInLf? file) (normalAfter (basesOfFile file) chromName text out) out
+-- The list in normal form, or the line of the refusal.
+unfoldable pub normalisedText : List ℕ → List ℕ → List ℕ
+normalisedText file text = toldText (listRefusal file text) (writtenText (basesOfFile file) text)

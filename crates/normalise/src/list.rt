@@ -1,20 +1,32 @@
-// The list of a file in normal form.
+// What normalise prints for the bytes of its two files.
 ghost use mathlib.Core.Path.{_≡_};
+ghost use Prim.Native.Nat.{_≤_};
 ghost use lib.ListN.{length};
-ghost use Rattle.normalise.specs.Normalised.{normalisedAnswer, normalisedAfter};
-use card::answer::Answer;
-use card::answer::refuse;
+ghost use Rattle.bases.specs.Put.{put};
+ghost use Rattle.lines.specs.Lines.{refusedMost};
+ghost use Rattle.normalise.specs.Normalised.{normalisedText};
 use card::normal_text::normal;
 use files::file::ends_in_lf;
+use lines::refused::refused_text;
 
-// Writes the list into `out`, in normal form on the bases of a reference file, as the call `normal` does; a file that does not end in LF is refused
-// with 1.
-pub fn normalised(file: &[u8], text: &[u8], out: &mut [u8]) -> Answer
-    ensures { λ r. ⌜ (r ≡ normalisedAnswer (now (file .entry)) (now (text .entry)) (length (now (out .entry)))) × (now (out .exit) ≡ normalisedAfter (now (file .entry)) (now (text .entry)) (now (out .entry))) ⌝ }
+// Writes what is printed for a reference file and a list at the start of the room, and says how many bytes that is. The room is not below the list's
+// length.
+pub fn normalise_text(file: &[u8], text: &[u8], out: &mut [u8]) -> usize
+    requires { ⌜ (length (now text) ≤ length (now out)) × (refusedMost ≤ length (now out)) ⌝ }
+    ensures { λ r. ⌜ (r ≡ length (normalisedText (now (file .entry)) (now (text .entry)))) × (now (out .exit) ≡ put (now (out .entry)) 0 (normalisedText (now (file .entry)) (now (text .entry)))) ⌝ }
 {
     if !ends_in_lf(file) {
-        return refuse(1, 0, 0);
+        return refused_text(1, 0, 0, out);
     }
     let n = file.len() - 1;
-    normal(&file[..n], b"chr1", text, out)
+    let answer = normal(&file[..n], b"chr1", text, out);
+    if answer.number != 0 {
+        return refused_text(
+            answer.number as usize,
+            answer.list as usize,
+            answer.line as usize,
+            out,
+        );
+    }
+    answer.value as usize
 }

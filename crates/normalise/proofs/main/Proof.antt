@@ -1,10 +1,12 @@
--- `normalise::main` meets its contract: what was written is a part of the room. Assumes nothing.
+-- `normalise::main` stays inside its memory: what is read and what is printed fit their rooms. Assumes nothing.
 use mathlib.Core.Path.{sym}
+use Prim.Native.Nat.{ℕ, _+_, _≤_}
 use native.Mathlib.Omega.{arith}
 use borrow.Author.Needs.{needs}
-use lib.ListN.{take}
+use lib.ListN.{length-replicate}
 use lib.Seq.{length-take-le}
-use Rattle.normalise.proofs.NormalisedLaws.{value-fits}
+use Rattle.vcf.specs.List.{longestText}
+use Rattle.normalise.proofs.NormalisedLaws.{length-few}
 use Rattle.normalise.proofs.main.Statement.{statement}
 use Rattle.normalise.proofs.main.Tie as tie
 
@@ -29,50 +31,38 @@ read-file-requires-2 c κs = search needs
 array-share-prefix-reference : tie.Need-array-share-prefix-reference
 array-share-prefix-reference c = search needs
 
-slice-aggregate-normalised : tie.Need-slice-aggregate-normalised
-slice-aggregate-normalised c = search needs
+slice-aggregate-normalise-text : tie.Need-slice-aggregate-normalise-text
+slice-aggregate-normalise-text c = search needs
 
 array-share-prefix-text : tie.Need-array-share-prefix-text
 array-share-prefix-text c = search needs
 
-slice-aggregate-normalised-2 : tie.Need-slice-aggregate-normalised-2
-slice-aggregate-normalised-2 c = search needs
+slice-aggregate-normalise-text-2 : tie.Need-slice-aggregate-normalise-text-2
+slice-aggregate-normalise-text-2 c = search needs
 
-slice-aggregate-normalised-3 : tie.Need-slice-aggregate-normalised-3
-slice-aggregate-normalised-3 c = search needs
+slice-aggregate-normalise-text-3 : tie.Need-slice-aggregate-normalise-text-3
+slice-aggregate-normalise-text-3 c = search needs
 
-normalised-requires : tie.Need-normalised-requires
-normalised-requires c κs = search needs
-
-print-refused-requires : tie.Need-print-refused-requires
-print-refused-requires c κs = search needs
-
-returns : tie.Need-returns
-returns c = search needs
-
-cast-end : tie.Need-cast-end
-cast-end c = search needs
+normalise-text-requires : tie.Need-normalise-text-requires
+normalise-text-requires c κs = search needs
 
 array-share-prefix-out : tie.Need-array-share-prefix-out
 array-share-prefix-out c =
-    let f = c .before .before .before .before .before .before .before .before .before .before .before .before .before .read-file in
-    let t = c .before .before .before .before .before .before .before .before .before .read-file2 in
-    let r = c .before .before .before .before .normalised in
-    omega (arith, value-fits (take (f .result) (f .last .1 .0)) (take (t .result) (t .last .1 .0)) 65537 (r .result) (r .ensures .0) (c .before .if1 .left))
+    let w = c .before .normalise-text in
+    let few : w .result ≤ longestText = length-few _ _ (w .result) (w .ensures .0) in
+    omega (arith, few, w .kept .1 .1 .0, length-replicate {A = ℕ} (longestText + 1) 0)
 
 slice-aggregate-write-all : tie.Need-slice-aggregate-write-all
 slice-aggregate-write-all c =
-    let f = c .before .before .before .before .before .before .before .before .before .before .before .before .before .before .read-file in
-    let t = c .before .before .before .before .before .before .before .before .before .before .read-file2 in
-    let r = c .before .before .before .before .before .normalised in
-    let h = value-fits (take (f .result) (f .last .1 .0)) (take (t .result) (t .last .1 .0)) 65537 (r .result) (r .ensures .0) (c .before .before .if1 .left) in
-    sym (length-take-le (r .result .value) (r .last .1 .1 .0) (omega (arith, h)))
+    let w = c .before .before .normalise-text in
+    let few : w .result ≤ longestText = length-few _ _ (w .result) (w .ensures .0) in
+    sym (length-take-le (w .result) (w .last .1 .1 .0) (omega (arith, few, w .kept .1 .1 .0, length-replicate {A = ℕ} (longestText + 1) 0)))
 
 write-all-requires : tie.Need-write-all-requires
 write-all-requires c κs = search needs
 
-returns-2 : tie.Need-returns-2
-returns-2 c = search needs
+returns : tie.Need-returns
+returns c = search needs
 
 pub main-spec : {M : Type 1} → statement M
 main-spec =
@@ -85,15 +75,12 @@ main-spec =
     slice-aggregate-read-file-4
     read-file-requires-2
     array-share-prefix-reference
-    slice-aggregate-normalised
+    slice-aggregate-normalise-text
     array-share-prefix-text
-    slice-aggregate-normalised-2
-    slice-aggregate-normalised-3
-    normalised-requires
-    print-refused-requires
-    returns
-    cast-end
+    slice-aggregate-normalise-text-2
+    slice-aggregate-normalise-text-3
+    normalise-text-requires
     array-share-prefix-out
     slice-aggregate-write-all
     write-all-requires
-    returns-2)
+    returns)

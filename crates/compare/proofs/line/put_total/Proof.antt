@@ -5,9 +5,10 @@ use native.Mathlib.Omega.{arith}
 use borrow.Author.Needs.{needs}
 use lib.ListN.{length}
 use Rattle.vcf.specs.Bytes.{LF, TAB}
-use Rattle.compare.specs.Printed.{totalWord, field, fields}
-use Rattle.compare.proofs.FieldLaws.{fields-few}
-use Rattle.compare.proofs.WroteLaws.{wrote-then}
+use Rattle.lines.specs.Lines.{field, fields}
+use Rattle.lines.proofs.FieldLaws.{fields-few}
+use Rattle.lines.proofs.WroteLaws.{wrote-then}
+use Rattle.compare.specs.Printed.{totalWord}
 use Rattle.compare.proofs.line.put_total.Statement.{statement}
 use Rattle.compare.proofs.line.put_total.Tie as tie
 

@@ -6,12 +6,12 @@ use native.Mathlib.Omega.{arith}
 use borrow.Author.Needs.{needs}
 use lib.ListN.{length, take}
 use Rattle.clusters.specs.declared.plan.Cluster.{Cluster}
+use Rattle.clusters.specs.Counts.{countAll, countsOf, totals}
 use Rattle.clusters.specs.Merged.{mergedItems}
-use Rattle.compare.specs.Counts.{countAll, countsOf, totals}
+use Rattle.clusters.proofs.CountLaws.{totals-all, count-few}
+use Rattle.lines.proofs.WroteLaws.{left-last}
 use Rattle.compare.specs.Printed.{totalLine}
-use Rattle.compare.proofs.CountLaws.{totals-all, count-few}
 use Rattle.compare.proofs.TextLaws.{Printing, printing-begin, printing-fits, printing-more, printing-end, printing-all, text-wrote}
-use Rattle.compare.proofs.WroteLaws.{left-last}
 use Rattle.compare.proofs.text.make_text.Statement.{statement}
 use Rattle.compare.proofs.text.make_text.Tie as tie
 

@@ -1,0 +1,42 @@
+-- Laws of the lines that compare prints.
+--     number-read                    a POS is printed as it was read
+--     list-number-few                the number of a list is 1 or 2
+--     line-few, total-few            the most bytes that an entry's line and the total line have
+-- Assumes nothing.
+use mathlib.Core.Bool.{Bool, true, false}
+use mathlib.Core.List.{List, [], _∷_, _++_}
+use mathlib.Core.Path.{_≡_, _∙_}
+use Prim.Native.Nat.{ℕ, _≤_}
+use native.Mathlib.Omega.{arith}
+use lib.ListN.{length, length-append}
+use Rattle.normal.proofs.DecimalLaws.{decimal-read}
+use Rattle.vcf.specs.Bytes.{LF, TAB}
+use Rattle.vcf.specs.Pos.{readPos}
+use Rattle.clusters.specs.declared.count.Count.{Count}
+use Rattle.lines.specs.Lines.{number, field, fields}
+use Rattle.lines.proofs.FieldLaws.{number-pos, field-few, fields-few}
+use Rattle.compare.proofs.ReadLaws.{pos-le}
+use Rattle.compare.specs.Printed.{listNumber, entryLine, lineMost, totalWord, totalLine, totalMost}
+
+pub number-read : (f : List ℕ) → 1 ≤ readPos f → number (readPos f) ≡ f
+number-read f h = number-pos (readPos f) (pos-le f) ∙ decimal-read f h
+
+pub list-number-few : (side : Bool) → listNumber side ≤ 2
+list-number-few true = omega arith
+list-number-few false = omega arith
+
+pub line-few : (side : Bool) (pos cluster mark : ℕ) → length (entryLine side pos cluster mark) ≤ lineMost
+line-few side pos cluster mark =
+    let s = fields (listNumber side) pos cluster TAB in
+    omega (arith, length-append (s ++ (mark ∷ [])) (LF ∷ []), length-append s (mark ∷ []), fields-few (listNumber side) pos cluster TAB)
+
+pub total-few : (c : Count) (score : ℕ) → length (totalLine c score) ≤ totalMost
+total-few c score =
+    let three = fields (c .matched) (c .unmatched) (c .undecided) TAB in
+    omega (
+      arith,
+      length-append (totalWord ++ three) (field score LF),
+      length-append totalWord three,
+      fields-few (c .matched) (c .unmatched) (c .undecided) TAB,
+      field-few score LF,
+    )

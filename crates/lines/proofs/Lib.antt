@@ -1,0 +1,3 @@
+pub mod Determines
+pub mod FieldLaws
+pub mod WroteLaws

@@ -1,0 +1,120 @@
+-- `normalise::list::normalise_text` meets its contract: what is printed goes by whether the reference file ends in LF, and by what the call `normal`
+-- answers. Assumes nothing.
+use mathlib.Core.List.{List}
+use mathlib.Core.Path.{sym, ap, _∙_}
+use Prim.Native.Nat.{ℕ}
+use native.Mathlib.Omega.{arith}
+use borrow.Author.Needs.{needs}
+use borrow.Author.Tests.{not-true, not-false}
+use lib.ListN.{length}
+use lib.Seq.{length-take-le}
+use Rattle.bases.specs.Put.{put}
+use Rattle.files.proofs.FileLaws.{ends-some}
+use Rattle.lines.specs.Lines.{refusedText}
+use Rattle.normalise.proofs.NormalisedLaws.{normalised-open, answer-printable, text-refused, text-given}
+use Rattle.normalise.proofs.list.normalise_text.Statement.{statement}
+use Rattle.normalise.proofs.list.normalise_text.Tie as tie
+
+ends-in-lf-requires : tie.Need-ends-in-lf-requires
+ends-in-lf-requires c κs = search needs
+
+refused-text-requires : tie.Need-refused-text-requires
+refused-text-requires c κs = search needs
+
+same-length : tie.Need-same-length
+same-length c = search needs
+
+returns : tie.Need-returns
+returns c =
+    let a = c .before .before .before .before .before .before .before .before .before .args in
+    let t = normalised-open (a .file .now) (a .text .now) (sym (c .before .before .before .before .before .ends-in-lf .ensures) ∙ not-true _ (c .before .before .before .before .if1 .taken)) in
+    let w = c .before .before .refused-text .ensures in
+    (w .0 ∙ ap length (sym t), w .1 ∙ ap (put (a .out .now) 0) (sym t))
+
+sub-n : tie.Need-sub-n
+sub-n c =
+    let a = c .before .before .before .before .before .args in
+    omega (arith, ends-some (a .file .now) (sym (c .before .ends-in-lf .ensures) ∙ not-false _ (c .if1 .left)))
+
+slice-aggregate-normal : tie.Need-slice-aggregate-normal
+slice-aggregate-normal c =
+    let a = c .before .before .before .before .before .before .args in
+    sym (length-take-le _ (a .file .now) (omega arith))
+
+slice-aggregate-normal-2 : tie.Need-slice-aggregate-normal-2
+slice-aggregate-normal-2 c = search needs
+
+normal-requires : tie.Need-normal-requires
+normal-requires c κs = search needs
+
+cast-refused-text : tie.Need-cast-refused-text
+cast-refused-text c = search needs
+
+cast-refused-text-2 : tie.Need-cast-refused-text-2
+cast-refused-text-2 c = search needs
+
+cast-refused-text-3 : tie.Need-cast-refused-text-3
+cast-refused-text-3 c = search needs
+
+refused-text-requires-2 : tie.Need-refused-text-requires-2
+refused-text-requires-2 c κs =
+    let a = c .before .before .before .before .before .before .before .before .before .before .before .before .before .before .before .before .before .args in
+    let ends = sym (c .before .before .before .before .before .before .before .before .before .before .before .before .before .ends-in-lf .ensures) ∙ not-false _ (c .before .before .before .before .before .before .before .before .before .before .before .before .if1 .left) in
+    let w = c .before .before .before .before .before .before .before .before .normal in
+    let m = w .result in
+    let e = w .ensures in
+    let p = answer-printable (a .file .now) (a .text .now) (a .out .now) ends (c .before .before .before .before .before .before .before .before .before .before .before .before .before .before .before .before .before .pre .0) m (e .0) (c .before .before .before .before .if2 .taken) in
+    (p .0, p .1, p .2, omega (arith, c .before .before .before .before .before .before .before .before .before .before .before .before .before .before .before .before .before .pre .1, w .kept .1 .1 .1 .0))
+
+same-length-2 : tie.Need-same-length-2
+same-length-2 c = search needs
+
+returns-2 : tie.Need-returns-2
+returns-2 c =
+    let a = c .before .before .before .before .before .before .before .before .before .before .before .before .before .before .before .before .before .before .before .before .args in
+    let ends = sym (c .before .before .before .before .before .before .before .before .before .before .before .before .before .before .before .before .ends-in-lf .ensures) ∙ not-false _ (c .before .before .before .before .before .before .before .before .before .before .before .before .before .before .before .if1 .left) in
+    let w = c .before .before .before .before .before .before .before .before .before .before .before .normal in
+    let m = w .result in
+    let e = w .ensures in
+    let t = text-refused (a .file .now) (a .text .now) (a .out .now) ends (c .before .before .before .before .before .before .before .before .before .before .before .before .before .before .before .before .before .before .before .before .pre .0) m (e .0) (c .before .before .before .before .before .before .before .if2 .taken) in
+    let v = c .before .before .refused-text2 .ensures in
+    let line = refusedText (m .number) (m .list) (m .line) in
+    (v .0 ∙ ap length (sym (t .0)), v .1 ∙ ap (λ (l : List ℕ). put l 0 line) (e .1 ∙ t .1) ∙ ap (put (a .out .now) 0) (sym (t .0)))
+
+cast-result : tie.Need-cast-result
+cast-result c = search needs
+
+same-length-3 : tie.Need-same-length-3
+same-length-3 c = search needs
+
+returns-3 : tie.Need-returns-3
+returns-3 c =
+    let a = c .before .before .before .before .before .before .before .before .before .before .before .before .before .before .args in
+    let ends = sym (c .before .before .before .before .before .before .before .before .before .before .ends-in-lf .ensures) ∙ not-false _ (c .before .before .before .before .before .before .before .before .before .if1 .left) in
+    let w = c .before .before .before .before .before .normal in
+    let m = w .result in
+    let e = w .ensures in
+    let g = text-given (a .file .now) (a .text .now) (a .out .now) ends (c .before .before .before .before .before .before .before .before .before .before .before .before .before .before .pre .0) m (e .0) (c .before .if2 .left) in
+    (g .0, e .1 ∙ g .1)
+
+pub normalise-text-spec : {M : Type 1} → statement M
+normalise-text-spec =
+    tie.close
+    (tie.spec
+    ends-in-lf-requires
+    refused-text-requires
+    same-length
+    returns
+    sub-n
+    slice-aggregate-normal
+    slice-aggregate-normal-2
+    normal-requires
+    cast-refused-text
+    cast-refused-text-2
+    cast-refused-text-3
+    refused-text-requires-2
+    same-length-2
+    returns-2
+    cast-result
+    same-length-3
+    returns-3)

@@ -1,0 +1,4 @@
+pub mod Determines
+pub mod FilesLaws
+pub mod PrintableLaws
+pub mod ToldLaws

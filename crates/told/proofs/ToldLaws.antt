@@ -1,0 +1,69 @@
+-- What is told, by whether there is a refusal.
+--     file-open, file-past, file-ends
+--                                the first refusal, by whether the reference file ends in LF
+--     told-refused, told-text    its line; else the text
+--     told-few                   the most bytes that are told
+--     Numbers                    three numbers are those of a refusal
+--     numbers-printable, numbers-refused, numbers-text
+--                                they can be printed; what is told, by them
+-- Assumes nothing.
+use mathlib.Core.Bool.{Bool, true, false, not}
+use mathlib.Core.List.{List, _∷_}
+use mathlib.Core.Logic.{_≢_}
+use mathlib.Core.Path.{_≡_, refl, sym, ap, _∙_}
+use Prim.Native.Nat.{ℕ, _≤_}
+use native.Mathlib.Omega.{arith}
+use borrow.Author.Tests.{eq-eqb, ne-eqb, eqb-true, eqb-false}
+use lib.Dec.{eqb}
+use lib.ListN.{length}
+use Rattle.card.specs.declared.refusal.Refusal.{Refusal}
+use Rattle.card.specs.Refusal.{Check, refusal, firstRefusal}
+use Rattle.card.proofs.RefusalLaws.{first-holds, first-not}
+use Rattle.files.specs.File.{endsInLf?}
+use Rattle.lines.specs.Lines.{largestNumber, refusedText, refusedMost}
+use Rattle.lines.proofs.FieldLaws.{refused-few}
+use Rattle.told.specs.Told.{fileCheck, toldText}
+use Rattle.told.proofs.PrintableLaws.{Printable}
+
+module _ (file : List ℕ) (cs : List Check) where
+  pub file-open : endsInLf? file ≡ false → firstRefusal (fileCheck file ∷ cs) ≡ refusal 1 0 0
+  file-open e = first-holds (fileCheck file) cs (ap not e)
+
+  pub file-past : endsInLf? file ≡ true → firstRefusal (fileCheck file ∷ cs) ≡ firstRefusal cs
+  file-past e = first-not (fileCheck file) cs (ap not e)
+
+  pub file-ends : firstRefusal (fileCheck file ∷ cs) .number ≡ 0 → endsInLf? file ≡ true
+  file-ends z = go (endsInLf? file) refl
+    where
+      go : (t : Bool) → endsInLf? file ≡ t → t ≡ true
+      go true e = refl
+      go false e = absurd (omega (arith, z, ap (λ (x : Refusal). x .number) (file-open e)))
+
+module _ (r : Refusal) (text : List ℕ) where
+  pub told-refused : r .number ≢ 0 → toldText r text ≡ refusedText (r .number) (r .list) (r .line)
+  told-refused n = rw (ne-eqb (r .number) 0 n)
+
+  pub told-text : r .number ≡ 0 → toldText r text ≡ text
+  told-text z = rw (eq-eqb (r .number) 0 z)
+
+  pub told-few : (most : ℕ) → refusedMost ≤ most → (r .number ≡ 0 → length text ≤ most) → length (toldText r text) ≤ most
+  told-few most h few = go (eqb (r .number) 0) refl
+    where
+      go : (t : Bool) → eqb (r .number) 0 ≡ t → length (toldText r text) ≤ most
+      go true e = let z = eqb-true (r .number) 0 e in omega (arith, ap length (told-text z), few z)
+      go false e = omega (arith, ap length (told-refused (eqb-false (r .number) 0 e)), refused-few (r .number) (r .list) (r .line))
+
+pub record Numbers (number list line : ℕ) (r : Refusal) : Type 0 where
+  pub same-number : number ≡ r .number
+  pub same-list : list ≡ r .list
+  pub same-line : line ≡ r .line
+
+module _ (number list line : ℕ) (r : Refusal) (s : Numbers number list line r) where
+  pub numbers-printable : Printable r → (number ≤ largestNumber) × (list ≤ largestNumber) × (line ≤ largestNumber)
+  numbers-printable p = (omega (arith, s .same-number, p .number), omega (arith, s .same-list, p .list), omega (arith, s .same-line, p .line))
+
+  pub numbers-refused : (text : List ℕ) → number ≢ 0 → toldText r text ≡ refusedText number list line
+  numbers-refused text n = told-refused r text (rw (s .same-number) at n) ∙ rw (s .same-number, s .same-list, s .same-line)
+
+  pub numbers-text : (text : List ℕ) → number ≡ 0 → toldText r text ≡ text
+  numbers-text text z = told-text r text (sym (s .same-number) ∙ z)
