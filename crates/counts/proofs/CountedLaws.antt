@@ -1,0 +1,85 @@
+-- What is printed, by what the card tells of the two lists: its answer and the marks.
+--     told-printable                  its three numbers can be printed
+--     text-refused                    where it is refused, the text says so
+--     text-counts, text-few, text-accepted
+--                                     else both lists can be counted, the counts can be printed, and their line is what is printed
+--     line-few, length-few            the most bytes that are printed
+-- Assumes nothing.
+use mathlib.Core.List.{List}
+use mathlib.Core.Logic.{_≢_}
+use mathlib.Core.Path.{_≡_, sym, ap, _∙_}
+use Prim.Native.Nat.{ℕ, _+_, _≤_}
+use native.Mathlib.Omega.{arith}
+use lib.ListN.{length, drop, length-append}
+use Rattle.card.specs.declared.all.AllMarked.{AllMarked}
+use Rattle.card.specs.Refusal.{leastRoom}
+use Rattle.card.proofs.ClusterMarks.{marks-all}
+use Rattle.clusters.specs.declared.count.Counts.{Counts}
+use Rattle.clusters.specs.Counts.{countsOf, mostEntries, Few}
+use Rattle.clusters.specs.Heads.{Readable, startHeads}
+use Rattle.clusters.specs.Marks.{clustersOf, allMarks}
+use Rattle.clusters.specs.Merged.{mergedItems}
+use Rattle.clusters.proofs.CountLaws.{counts-few, counts-marks}
+use Rattle.clusters.proofs.HeadsLaws.{ready-readable}
+use Rattle.files.specs.File.{chromName, basesOfFile}
+use Rattle.lines.specs.Lines.{largestNumber, fields, refusedText}
+use Rattle.lines.proofs.FieldLaws.{fields-few}
+use Rattle.told.specs.Files.{refusalOf, filesAnswered, filesMarks}
+use Rattle.told.proofs.FilesLaws.{Tells, files-tell, files-printable, accepted-files, files-answerable, files-marks, files-marked}
+use Rattle.told.proofs.ToldLaws.{told-few, numbers-refused, numbers-text}
+use Rattle.vcf.specs.Bytes.{LF, TAB}
+use Rattle.counts.specs.Counted.{countsLine, countsFor, countedText, countedMost}
+
+pub line-few : (c : Counts) → length (countsLine c) ≤ countedMost
+line-few c =
+    let one = fields (c .first .matched) (c .first .unmatched) (c .first .undecided) TAB in
+    let two = fields (c .second .matched) (c .second .unmatched) (c .second .undecided) LF in
+    omega (
+      arith,
+      length-append one two,
+      fields-few (c .first .matched) (c .first .unmatched) (c .first .undecided) TAB,
+      fields-few (c .second .matched) (c .second .unmatched) (c .second .undecided) LF,
+    )
+
+-- What is printed has at most so many bytes, said of a number that is that of its bytes.
+pub length-few : (file first second : List ℕ) (n : ℕ) → n ≡ length (countedText file first second) → n ≤ countedMost
+unfolding countedText
+length-few file first second n e =
+    let c = countsFor (basesOfFile file) first second in
+    omega (arith, e, told-few (refusalOf file first second) (countsLine c) countedMost (omega arith) (λ z. line-few c))
+
+module _ (file first second : List ℕ) (answer : AllMarked) (before marks : List ℕ) (long : length before ≡ leastRoom)
+    (answered : answer ≡ filesAnswered file first second before) (wrote : marks ≡ filesMarks file first second before) where
+  abbrev r : List ℕ
+  r = basesOfFile file
+
+  tells : Tells answer (refusalOf file first second)
+  tells = rw answered (files-tell file first second before long)
+
+  pub told-printable : (answer .number ≤ largestNumber) × (answer .list ≤ largestNumber) × (answer .line ≤ largestNumber)
+  told-printable = files-printable file first second before long answer tells
+
+  pub text-refused : answer .number ≢ 0 → countedText file first second ≡ refusedText (answer .number) (answer .list) (answer .line)
+  unfolding countedText
+  text-refused n = numbers-refused (answer .number) (answer .list) (answer .line) (refusalOf file first second) tells (countsLine (countsFor r first second)) n
+
+  module _ (zero : answer .number ≡ 0) where
+    z : refusalOf file first second .number ≡ 0
+    z = sym (tells .same-number) ∙ zero
+
+    pub text-counts : Readable first second (startHeads first second) × (length (mergedItems first second) ≤ length marks) × (length (mergedItems first second) ≤ mostEntries)
+    text-counts =
+        let a = files-answerable file first second z in
+        (ready-readable r first second (startHeads first second) (a .ready), omega (arith, ap length wrote, files-marked file first second before long z), a .entries)
+
+    pub text-few : (c : Counts) → c ≡ countsOf (mergedItems first second) marks → Few (c .first) × Few (c .second)
+    text-few c e = rw e (counts-few (mergedItems first second) marks (text-counts .2))
+
+    pub text-accepted : (c : Counts) → c ≡ countsOf (mergedItems first second) marks → countsLine c ≡ countedText file first second
+    unfolding countedText
+    text-accepted c e =
+        let own = allMarks r (clustersOf r first second) in
+        let accept = accepted-files file first second z in
+        let same = counts-marks (mergedItems first second) own (drop (0 + length own) before) (omega (arith, marks-all r chromName first second (accept .0) (accept .1))) in
+        ap countsLine (e ∙ ap (countsOf (mergedItems first second)) (wrote ∙ files-marks file first second before long z) ∙ same)
+        ∙ sym (numbers-text (answer .number) (answer .list) (answer .line) (refusalOf file first second) tells (countsLine (countsFor r first second)) zero)

@@ -1,0 +1,3 @@
+pub mod CountedLaws
+pub mod Determines
+pub mod Examples

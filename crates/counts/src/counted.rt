@@ -1,0 +1,49 @@
+// What counts prints for the bytes of its three files. Each function says where what it wrote ends, and leaves every other byte of the room as it was.
+ghost use mathlib.Core.Path.{_≡_};
+ghost use Prim.Native.Nat.{_≤_};
+ghost use lib.ListN.{length};
+ghost use Rattle.bases.specs.Put.{put};
+ghost use Rattle.clusters.specs.Counts.{Few};
+ghost use Rattle.counts.specs.Counted.{countsLine, countedText, countedMost};
+use card::lists::LEAST;
+use clusters::count::Counts;
+use clusters::count::count_lists;
+use lines::field::FIELDS_MOST;
+use lines::field::put_fields;
+use lines::refused::refused_text;
+use told::marked::mark_files;
+use vcf::bytes::LF;
+use vcf::bytes::TAB;
+
+// The most bytes that are printed.
+pub const COUNTED_MOST: usize = 2 * FIELDS_MOST;
+
+// Writes the line of six counts at the start of the room.
+pub fn put_counts(counts: Counts, out: &mut [u8]) -> usize
+    requires { ⌜ Few (counts .first) × Few (counts .second) × (countedMost ≤ length (now out)) ⌝ }
+    ensures { λ r. ⌜ (r ≡ length (countsLine counts)) × (now (out .exit) ≡ put (now (out .entry)) 0 (countsLine counts)) ⌝ }
+{
+    let one = counts.first;
+    let next = put_fields(one.matched, one.unmatched, one.undecided, TAB, out, 0);
+    let two = counts.second;
+    put_fields(two.matched, two.unmatched, two.undecided, LF, out, next)
+}
+
+// Writes what is printed for a reference file and two lists at the start of the room, and says how many bytes that is.
+pub fn count_text(file: &[u8], first: &[u8], second: &[u8], out: &mut [u8]) -> usize
+    requires { ⌜ countedMost ≤ length (now out) ⌝ }
+    ensures { λ r. ⌜ (r ≡ length (countedText (now (file .entry)) (now (first .entry)) (now (second .entry)))) × (now (out .exit) ≡ put (now (out .entry)) 0 (countedText (now (file .entry)) (now (first .entry)) (now (second .entry)))) ⌝ }
+{
+    let mut marks = [0u8; LEAST];
+    let marked = mark_files(file, first, second, &mut marks);
+    let answer = marked.answer;
+    if answer.number != 0 {
+        return refused_text(
+            answer.number as usize,
+            answer.list as usize,
+            answer.line as usize,
+            out,
+        );
+    }
+    put_counts(count_lists(first, second, &marks), out)
+}
