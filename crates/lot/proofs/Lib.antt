@@ -1,0 +1,10 @@
+pub mod BoundLaws
+pub mod Determines
+pub mod Examples
+pub mod LotLaws
+pub mod LotSteps
+pub mod MarksLaws
+pub mod RefusalLaws
+pub mod RunLaws
+pub mod ShareLaws
+pub mod SumLaws

@@ -1,0 +1,5 @@
+pub mod Lot
+pub mod Marked
+pub mod Run
+pub mod Share
+pub mod Sum
