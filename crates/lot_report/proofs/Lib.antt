@@ -1,0 +1,11 @@
+pub mod CountLaws
+pub mod Determines
+pub mod Examples
+pub mod JoinedLaws
+pub mod LotLaws
+pub mod MadeLaws
+pub mod ReadLaws
+pub mod ReportLaws
+pub mod RunLaws
+pub mod ShareLaws
+pub mod TableLaws
