@@ -3,11 +3,11 @@
  *
  * Reads cases from standard input up to its end and writes what each call answered and left, all numbers little-endian:
  *
- *   a case      the call's number (4 bytes): 1 card_allele, 2 card_normal, 3 card_plan, 4 card_mark;
+ *   a case      the call's number (4 bytes): 1 card_allele, 2 card_normal, 3 card_plan, 4 card_mark, 5 card_count;
  *               each lent buffer, in the call's order: its count of bytes (4) and its bytes, or 0xFFFFFFFF for the buffer that
  *               was lent last in this place, with what the call left in it;
  *               each number (8)
- *   its answer  number, list, line and value of card_answer (4 bytes each);
+ *   its answer  the numbers of card_answer or of card_counts (4 bytes each);
  *               one byte, 1 where a byte changed that the call may not write, a lent one or one beside them, else 0;
  *               where the call may write, all bytes of the buffer that it may write, its last
  *
@@ -22,55 +22,75 @@
 
 enum { LENT_MOST = 6, NUMBERS_MOST = 2 };
 
+/* What a call answers. */
+union told {
+    card_answer answer;
+    card_counts counts;
+};
+
 struct call {
     uint32_t lent, numbers;
     int writes; /* whether it may write the last of the lent buffers */
-    card_answer (*make)(const struct lent *, const uint64_t *);
+    size_t told; /* bytes of its answer */
+    union told (*make)(const struct lent *, const uint64_t *);
 };
 
 /* What this uses of a stack is what the driver itself uses. */
-static card_answer nothing(const struct lent *l, const uint64_t *n)
+static union told nothing(const struct lent *l, const uint64_t *n)
 {
     (void)l;
     (void)n;
-    return (card_answer){0, 0, 0, 0};
+    return (union told){0};
 }
 
-static card_answer allele(const struct lent *l, const uint64_t *n)
+static union told allele(const struct lent *l, const uint64_t *n)
 {
-    return card_allele(l[0].bytes, l[0].count, l[1].bytes, l[1].count, l[2].bytes, l[2].count, n[0], n[1]);
+    return (union told){.answer = card_allele(l[0].bytes, l[0].count, l[1].bytes, l[1].count, l[2].bytes, l[2].count, n[0],
+                                              n[1])};
 }
 
-static card_answer normal(const struct lent *l, const uint64_t *n)
-{
-    (void)n;
-    return card_normal(l[0].bytes, l[0].count, l[1].bytes, l[1].count, l[2].bytes, l[2].count, l[3].bytes, l[3].count);
-}
-
-static card_answer plan(const struct lent *l, const uint64_t *n)
+static union told normal(const struct lent *l, const uint64_t *n)
 {
     (void)n;
-    return card_plan(l[0].bytes, l[0].count, l[1].bytes, l[1].count, l[2].bytes, l[2].count, l[3].bytes, l[3].count,
-                     (void *)l[4].bytes, l[4].count / sizeof(card_cluster));
+    return (union told){.answer = card_normal(l[0].bytes, l[0].count, l[1].bytes, l[1].count, l[2].bytes, l[2].count,
+                                              l[3].bytes, l[3].count)};
 }
 
-static card_answer mark(const struct lent *l, const uint64_t *n)
+static union told plan(const struct lent *l, const uint64_t *n)
 {
-    return card_mark(l[0].bytes, l[0].count, l[1].bytes, l[1].count, l[2].bytes, l[2].count, l[3].bytes, l[3].count,
-                     (void *)l[4].bytes, l[4].count / sizeof(card_cluster), n[0], l[5].bytes, l[5].count);
+    (void)n;
+    return (union told){.answer = card_plan(l[0].bytes, l[0].count, l[1].bytes, l[1].count, l[2].bytes, l[2].count,
+                                            l[3].bytes, l[3].count, (void *)l[4].bytes,
+                                            l[4].count / sizeof(card_cluster))};
+}
+
+static union told mark(const struct lent *l, const uint64_t *n)
+{
+    return (union told){.answer = card_mark(l[0].bytes, l[0].count, l[1].bytes, l[1].count, l[2].bytes, l[2].count,
+                                            l[3].bytes, l[3].count, (void *)l[4].bytes,
+                                            l[4].count / sizeof(card_cluster), n[0], l[5].bytes, l[5].count)};
+}
+
+static union told count(const struct lent *l, const uint64_t *n)
+{
+    (void)n;
+    return (union told){.counts = card_count(l[0].bytes, l[0].count, l[1].bytes, l[1].count, l[2].bytes, l[2].count,
+                                             l[3].bytes, l[3].count, l[4].bytes, l[4].count)};
 }
 
 /* The calls by their number in a case. */
 static const struct call calls[] = {
-    {0, 0, 0, nothing},
-    {3, 2, 0, allele},
-    {4, 0, 1, normal},
-    {5, 0, 1, plan},
-    {6, 1, 1, mark},
+    {0, 0, 0, 0, nothing},
+    {3, 2, 0, sizeof(card_answer), allele},
+    {4, 0, 1, sizeof(card_answer), normal},
+    {5, 0, 1, sizeof(card_answer), plan},
+    {6, 1, 1, sizeof(card_answer), mark},
+    {5, 0, 0, sizeof(card_counts), count},
 };
 enum { CALLS = sizeof calls / sizeof calls[0] };
 
 _Static_assert(sizeof(card_answer) == 16, "an answer is four numbers of four bytes");
+_Static_assert(sizeof(card_counts) == 36, "counts are nine numbers of four bytes");
 _Static_assert(sizeof(card_cluster) == 8, "a cluster is two numbers of four bytes");
 
 static struct lent lent[LENT_MOST];
@@ -79,13 +99,13 @@ static struct lent lent[LENT_MOST];
 struct made {
     const struct call *call;
     const uint64_t *numbers;
-    card_answer answer;
+    union told told;
 };
 
 static void make(void *given)
 {
     struct made *made = given;
-    made->answer = made->call->make(lent, made->numbers);
+    made->told = made->call->make(lent, made->numbers);
 }
 
 /* Of each call, those that were answered and those that were refused: how many, and the most bytes of stack that one used. */
@@ -93,15 +113,15 @@ static struct {
     size_t count, most;
 } used[CALLS][2];
 
-static card_answer make_on_stack(const struct call *call, const uint64_t *numbers)
+static union told make_on_stack(const struct call *call, const uint64_t *numbers)
 {
-    struct made empty = {&calls[0], numbers, {0, 0, 0, 0}}, made = {call, numbers, {0, 0, 0, 0}};
+    struct made empty = {&calls[0], numbers, {0}}, made = {call, numbers, {0}};
     size_t own = stack_used(make, &empty), bytes = stack_used(make, &made) - own;
-    int refused = made.answer.number != 0;
+    int refused = made.told.answer.number != 0; /* the first number of either answer */
     used[call - calls][refused].count++;
     if (bytes > used[call - calls][refused].most)
         used[call - calls][refused].most = bytes;
-    return made.answer;
+    return made.told;
 }
 
 static void tell_used(void)
@@ -131,18 +151,19 @@ int main(int argc, char **argv)
             lend(&lent[i], cases >> i & 1);
         take_all(numbers, call->numbers * sizeof numbers[0]);
 
-        struct {
-            card_answer answer;
-            uint8_t changed;
-        } told = {{0, 0, 0, 0}, 0};
+        union told told = {0};
+        uint8_t changed = 0;
         if (on_stack)
-            told.answer = make_on_stack(call, numbers);
+            told = make_on_stack(call, numbers);
         for (unsigned long i = 0; i < times; i++)
-            told.answer = call->make(lent, numbers);
+            told = call->make(lent, numbers);
         for (size_t i = 0; i < call->lent; i++)
-            told.changed |= has_changed(&lent[i], call->writes && &lent[i] == last);
+            changed |= has_changed(&lent[i], call->writes && &lent[i] == last);
         /* At once, so that a call that faults is the first without an answer. */
-        give(&told, sizeof told.answer + sizeof told.changed);
+        uint8_t answer[sizeof told + sizeof changed];
+        memcpy(answer, &told, call->told);
+        answer[call->told] = changed;
+        give(answer, call->told + sizeof changed);
         if (call->writes)
             give(last->bytes, last->count);
     }

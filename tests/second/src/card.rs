@@ -5,6 +5,7 @@
 use crate::best_pruned::best_pruned;
 use crate::choice::Choice;
 use crate::clusters::{clusters, lists_of, Cluster, DECIDED_MOST};
+use crate::counts::Counts;
 use crate::entry::Entry;
 use crate::list::{self, RECORDS_MOST};
 use crate::merged::{merged, Item, Lists};
@@ -107,6 +108,22 @@ pub fn mark_all(
         }
     }
     Ok((clusters.len() as u32, total))
+}
+
+/// The counts of list 1's marks and of list 2's. Marks behind those of the entries are not read.
+pub fn count(
+    reference: &[u8],
+    name: &[u8],
+    first: &[u8],
+    second: &[u8],
+    marks: &[u8],
+) -> Result<[Counts; 2], Refusal> {
+    reference::judge(reference)?;
+    judge_room(marks.len(), ENTRIES_MOST)?;
+    let both = read_both(reference, name, first, second)?;
+    let items = merged(both.each_ref().map(Vec::as_slice));
+    let marked = |list| items.iter().zip(marks).filter(move |(item, _)| item.list == list);
+    Ok([0, 1].map(|list| Counts::of(marked(list).map(|(_, mark)| *mark))))
 }
 
 /// Writes the list in normal form and returns the number of bytes written.

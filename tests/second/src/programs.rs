@@ -1,12 +1,15 @@
-//! What the programs print. `compare` prints the marks and totals, `normalise` the normal text.
+//! What the programs print. `compare` prints the marks and totals, `normalise` the normal text, `counts` the
+//! six counts of a run, `lot_report` the table of a lot.
 //!
 //! A refusal prints its one line and nothing else.
 
-use crate::card::{mark_all, normal, ENTRIES_MOST};
+use crate::card::{count, mark_all, normal, ENTRIES_MOST};
 use crate::clusters::Cluster;
+use crate::counts::Counts;
 use crate::list::{self, List};
 use crate::merged::merged;
 use crate::refusal::{Refusal, WRONG_REFERENCE};
+use crate::report::report;
 
 const NAME: &[u8] = b"chr1";
 const HEADING: &str = "list\tPOS\tcluster\tmark\n";
@@ -19,6 +22,16 @@ pub fn compare(reference_file: &[u8], first: &[u8], second: &[u8]) -> Vec<u8> {
 /// What `normalise` prints for the bytes of reference.txt and first.vcf.
 pub fn normalise(reference_file: &[u8], first: &[u8]) -> Vec<u8> {
     normalised(reference_file, first).unwrap_or_else(refused)
+}
+
+/// What `counts` prints for the bytes of reference.txt, first.vcf and second.vcf.
+pub fn counts(reference_file: &[u8], first: &[u8], second: &[u8]) -> Vec<u8> {
+    counted(reference_file, first, second).unwrap_or_else(refused)
+}
+
+/// What `lot_report` prints for the bytes of runs.tsv.
+pub fn lot_report(runs: &[u8]) -> Vec<u8> {
+    report(runs).unwrap_or_else(refused)
 }
 
 fn refused(refusal: Refusal) -> Vec<u8> {
@@ -43,6 +56,16 @@ fn compared(reference_file: &[u8], first: &[u8], second: &[u8]) -> Result<Vec<u8
     Ok(table(&first, &second, &plan[..count as usize], &marks, score))
 }
 
+/// The counts of list 1, then those of list 2, on one line.
+fn counted(reference_file: &[u8], first: &[u8], second: &[u8]) -> Result<Vec<u8>, Refusal> {
+    let reference = bases(reference_file)?;
+    let (mut plan, mut marks) = ([Cluster::default(); ENTRIES_MOST], [0; ENTRIES_MOST]);
+    mark_all(reference, NAME, first, second, &mut plan, &mut marks)?;
+    let both = count(reference, NAME, first, second, &marks)?;
+    let numbers = both.map(|counts| counts.numbers().map(|number| number.to_string()).join("\t"));
+    Ok(format!("{}\n", numbers.join("\t")).into_bytes())
+}
+
 /// The bases of a reference file, which ends in one LF; without it row 1 holds.
 fn bases(reference_file: &[u8]) -> Result<&[u8], Refusal> {
     let bases = reference_file.strip_suffix(b"\n");
@@ -63,8 +86,7 @@ fn table(first: &List, second: &List, plan: &[Cluster], marks: &[u8], score: u32
         let mark = char::from(marks[number]);
         out += &format!("{list}\t{pos}\t{cluster}\t{mark}\n");
     }
-    let count = |kinds: &[u8]| marks.iter().filter(|mark| kinds.contains(mark)).count();
-    let (matched, unmatched, undecided) = (count(b"+-"), count(b"0"), count(b"?"));
+    let Counts { matched, unmatched, undecided } = Counts::of(marks.iter().copied());
     out += &format!("total\t{matched}\t{unmatched}\t{undecided}\t{score}\n");
     out.into_bytes()
 }

@@ -1,4 +1,4 @@
-//! What is turned away: the table of document 01, one name a row.
+//! What is turned away: the table of document 01 and the rows of request d, one name a row.
 
 /// The three numbers that a refused call answers with, and its only effect.
 #[derive(Clone, Copy, Debug, PartialEq, Eq)]
@@ -26,9 +26,14 @@ pub const ONE_RECORD_TOO_MANY: u32 = 15;
 pub const NO_CLUSTER: u32 = 16;
 pub const NOT_THE_PLAN: u32 = 17;
 pub const NO_ALLELE: u32 = 18;
+pub const WRONG_RUNS: u32 = 30;
+pub const LARGE_COUNTS: u32 = 31;
+
+/// In the runs of a lot, number 6 is a line that is not a name and six numbers.
+pub const NOT_A_RUN: u32 = NOT_TEN_FIELDS;
 
 impl Refusal {
-    /// Rows 1, 2, 16, 17 and 18 concern the call: list and line are 0.
+    /// Rows 1, 2, 16, 17, 18, 30 and 31 concern the call: list and line are 0.
     pub fn of_call(number: u32) -> Refusal {
         Refusal { number, list: 0, line: 0 }
     }

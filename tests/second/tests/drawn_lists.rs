@@ -67,14 +67,15 @@ fn cases(asked: Asked) -> impl Iterator<Item = Case> {
 
 #[test]
 fn every_answer_occurs_and_no_other_counts_as_the_same() {
-    for asked in [Asked::Allele, Asked::Normal, Asked::Plan, Asked::Mark] {
+    for asked in [Asked::Allele, Asked::Normal, Asked::Plan, Asked::Mark, Asked::Count] {
         let (mut same, mut changed) = (Tally::default(), Tally::default());
         for (number, case) in cases(asked).enumerate() {
             let mut other = case.expected.clone();
-            match other.left.len() {
-                0 => other.changed = true,
-                length if number % 2 == 0 => other.left[number % length] ^= 1,
-                _ => other.answer.value ^= 1,
+            let (left, values) = (other.left.len(), other.answer.values.len());
+            match number % 2 {
+                0 if left == 0 => other.changed = true,
+                0 => other.left[number % left] ^= 1,
+                _ => other.answer.values[number % values] ^= 1,
             }
             changed.note(Case::new(&case.reference, &case.name, case.call.clone()), Some(other));
             let told = case.expected.clone();

@@ -18,6 +18,8 @@ fn entries_stand_in_merged_order_with_pos_as_read() {
     expected += "2\t11\t2\t0\n";
     expected += "total\t2\t2\t13\t2\n";
     assert_eq!(case.printed(), expected);
+    let printed = second::counts(b"GACGTTGCGAT\n", &case.first, &case.second);
+    assert_eq!(printed, b"1\t0\t13\t1\t2\t0\n");
 }
 
 #[test]
@@ -27,6 +29,7 @@ fn a_refusal_is_the_only_line() {
     assert_eq!(second::compare(b"GCA\n", &good, &bad), b"refused\t12\t2\t4\n");
     assert_eq!(second::compare(b"GCA\n", &bad, &good), b"refused\t12\t1\t4\n");
     assert_eq!(second::compare(b"GCA\n", b"", b""), b"refused\t3\t1\t0\n");
+    assert_eq!(second::counts(b"GCA\n", &good, &bad), b"refused\t12\t2\t4\n");
     assert_eq!(second::normalise(b"GCA\n", &bad), b"refused\t12\t1\t4\n");
 }
 
@@ -56,8 +59,11 @@ fn the_binary_reads_the_files_of_a_directory() {
     let table = "list\tPOS\tcluster\tmark\n1\t2\t0\t+\n2\t4\t0\t+\ntotal\t2\t0\t0\t2\n";
     assert_eq!(printed("compare", &all), table);
     assert_eq!(printed("normalise", &all).as_bytes(), first);
+    assert_eq!(printed("counts", &all), "1\t0\t0\t1\t0\t0\n");
+    assert_eq!(printed("lot_report", &all), "refused\t3\t0\t0\n");
     let no_second = directory("no-second", &files[..2]);
     assert_eq!(printed("compare", &no_second), "refused\t3\t2\t0\n");
+    assert_eq!(printed("counts", &no_second), "refused\t3\t2\t0\n");
     let no_first = directory("no-first", &files[..1]);
     assert_eq!(printed("normalise", &no_first), "refused\t3\t1\t0\n");
     let none = directory("none", &[]);

@@ -33,11 +33,13 @@ fn row_1_a_reference_file_ends_in_exactly_one_lf() {
     let refused = b"refused\t1\t0\t0\n";
     for wrong in [&b""[..], b"\n", b"ACG", b"ACG\n\n", b"ACG\r\n", b"\nACG\n", b"ACG\nA"] {
         assert_eq!(second::compare(wrong, &first, &second), refused);
+        assert_eq!(second::counts(wrong, &first, &second), refused);
         assert_eq!(second::normalise(wrong, &first), refused);
     }
     let printed = second::compare(b"ACGTN\n", &first, &second);
     assert_eq!(printed, b"list\tPOS\tcluster\tmark\ntotal\t0\t0\t0\t0\n");
     assert_eq!(second::normalise(b"ACGTN\n", &first), first);
+    assert_eq!(second::counts(b"ACGTN\n", &first, &second), b"0\t0\t0\t0\t0\t0\n");
 }
 
 #[test]

@@ -1,5 +1,5 @@
-//! `second compare DIR` and `second normalise DIR` print what the programs of these names print
-//! for DIR's reference.txt, first.vcf and second.vcf.
+//! `second PROGRAM DIR` prints what the program of this name prints: `compare`, `normalise` and `counts` for DIR's
+//! reference.txt, first.vcf and second.vcf, `lot_report` for its runs.tsv.
 
 use std::io::Write;
 use std::path::Path;
@@ -13,16 +13,18 @@ fn bytes_of(directory: &str, file: &str) -> Vec<u8> {
 fn main() -> ExitCode {
     let arguments: Vec<String> = std::env::args().skip(1).collect();
     let [program, directory] = arguments.as_slice() else {
-        eprintln!("usage: second compare DIR | second normalise DIR");
+        eprintln!("usage: second compare|normalise|counts|lot_report DIR");
         return ExitCode::FAILURE;
     };
-    let reference = bytes_of(directory, "reference.txt");
-    let first = bytes_of(directory, "first.vcf");
+    let [reference, first, second] =
+        ["reference.txt", "first.vcf", "second.vcf"].map(|file| bytes_of(directory, file));
     let printed = match program.as_str() {
-        "compare" => second::compare(&reference, &first, &bytes_of(directory, "second.vcf")),
+        "compare" => second::compare(&reference, &first, &second),
         "normalise" => second::normalise(&reference, &first),
+        "counts" => second::counts(&reference, &first, &second),
+        "lot_report" => second::lot_report(&bytes_of(directory, "runs.tsv")),
         _ => {
-            eprintln!("no program {program}: compare or normalise");
+            eprintln!("no program {program}: compare, normalise, counts or lot_report");
             return ExitCode::FAILURE;
         }
     };

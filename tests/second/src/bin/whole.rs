@@ -1,93 +1,75 @@
-//! `whole COUNT SEED COMMAND..` draws COUNT folders from SEED, runs program compare, which COMMAND starts, in each of them, and holds
-//! what it prints to what this package prints, byte by byte. Where they differ, the first such folder is left, and named.
+//! `whole PROGRAM COUNT SEED COMMAND..` draws COUNT folders from SEED, runs PROGRAM, which COMMAND starts, in each of them, and
+//! holds what it prints to what this package prints. PROGRAM is `compare`, `counts` or `lot_report`.
 
-use second::drive::draw::folders::{folder, Folder, FILES};
-use std::collections::BTreeMap;
-use std::path::Path;
-use std::process::{Command, ExitCode, Stdio};
+use second::drive::draw::folders::{folder, FILES};
+use second::drive::draw::runs::{self, runs_file};
+use second::whole::{hold, Folder};
+use std::process::ExitCode;
 
-/// One in so many folders, at least, is to be accepted, and one in so many refused.
-const ONCE_IN: u64 = 4;
+/// What each run of lot_report is to come upon.
+const REFUSED_LOTS: [&str; 5] =
+    ["refused 3/0", "refused 5/0", "refused 6/0", "refused 30/0", "refused 31/0"];
+
+/// A program by its name: its folder of a seed and number, the kind of something that it prints, and the kinds that are demanded.
+struct Program {
+    draw: fn(u64, u64) -> Folder,
+    kind: fn(&str) -> String,
+    demanded: &'static [&'static str],
+}
 
 fn main() -> ExitCode {
     let arguments: Vec<String> = std::env::args().skip(1).collect();
-    let Some((count, seed, command)) = parsed(&arguments) else {
-        eprintln!("usage: whole COUNT SEED COMMAND..");
+    let Some((program, count, seed, command)) = parsed(&arguments) else {
+        eprintln!("usage: whole compare|counts|lot_report COUNT SEED COMMAND..");
         return ExitCode::from(2);
     };
-    let mut place = std::env::temp_dir().join(format!("whole-{}", std::process::id()));
-    let (mut kinds, mut differences, mut accepted) = (BTreeMap::<String, u64>::new(), 0, 0);
-    for number in 0..count {
-        let folder = folder(seed, number);
-        let expected = expected(&folder);
-        *kinds.entry(kind(&expected)).or_default() += 1;
-        accepted += u64::from(is_accepted(&expected));
-        lay(&place, &folder);
-        let (succeeded, printed) = run(command, &place);
-        if !succeeded || printed != expected {
-            differences += 1;
-            println!("whole: folder {number}: {}", told(&expected, &printed));
-            if differences == 1 {
-                println!("whole: it is left as {}", place.display());
-                place.set_extension("next");
-                continue;
-            }
-        }
-        std::fs::remove_dir_all(&place).expect("the folder is taken away");
-    }
-    let kinds: Vec<String> = kinds.iter().map(|(kind, count)| format!("{kind} {count}")).collect();
-    println!("printed, and number/list where refused: {}", kinds.join(", "));
-    println!("whole: {count} folders, seed {seed}, {accepted} accepted, {differences} differences");
-    let are_of_both = accepted >= count / ONCE_IN && count - accepted >= count / ONCE_IN;
-    match differences == 0 && are_of_both {
+    let folders = (0..count).map(|number| (program.draw)(seed, number));
+    let held = hold(command, folders, program.kind);
+    held.tell(&arguments[0], seed);
+    match held.is_good(program.demanded) {
         true => ExitCode::SUCCESS,
         false => ExitCode::FAILURE,
     }
 }
 
-fn parsed(arguments: &[String]) -> Option<(u64, u64, &[String])> {
-    let [count, seed, command @ ..] = arguments else { return None };
+fn parsed(arguments: &[String]) -> Option<(Program, u64, u64, &[String])> {
+    let [program, count, seed, command @ ..] = arguments else { return None };
+    let program = match program.as_str() {
+        "compare" => Program { draw: compared, kind: of_table, demanded: &[] },
+        "counts" => Program { draw: counted, kind: of_counts, demanded: &[] },
+        "lot_report" => Program { draw: reported, kind: of_report, demanded: &REFUSED_LOTS },
+        _ => return None,
+    };
     let (count, seed) = (count.parse().ok()?, seed.parse().ok()?);
-    (!command.is_empty()).then_some((count, seed, command))
+    (!command.is_empty()).then_some((program, count, seed, command))
+}
+
+fn compared(seed: u64, number: u64) -> Folder {
+    of_two_lists(seed, number, second::compare)
+}
+
+fn counted(seed: u64, number: u64) -> Folder {
+    of_two_lists(seed, number, second::counts)
 }
 
 /// A missing file counts as empty.
-fn expected(folder: &Folder) -> Vec<u8> {
+fn of_two_lists(seed: u64, number: u64, print: fn(&[u8], &[u8], &[u8]) -> Vec<u8>) -> Folder {
+    let folder = folder(seed, number);
     let [reference, first, second] =
         folder.each_ref().map(|file| file.as_deref().unwrap_or_default());
-    second::compare(reference, first, second)
+    let expected = print(reference, first, second);
+    Folder { files: FILES.into_iter().zip(folder).collect(), expected }
 }
 
-fn lay(place: &Path, folder: &Folder) {
-    std::fs::create_dir_all(place).expect("a folder");
-    for (name, bytes) in FILES.iter().zip(folder) {
-        if let Some(bytes) = bytes {
-            std::fs::write(place.join(name), bytes).expect("a file is written");
-        }
-    }
+fn reported(seed: u64, number: u64) -> Folder {
+    let file = runs_file(seed, number);
+    let expected = second::lot_report(file.as_deref().unwrap_or_default());
+    Folder { files: vec![(runs::FILE, file)], expected }
 }
 
-/// Whether the program ended well, and what it printed.
-fn run(command: &[String], place: &Path) -> (bool, Vec<u8>) {
-    let mut program = Command::new(&command[0]);
-    program.args(&command[1..]).current_dir(place).stdin(Stdio::null());
-    let output = program.output().expect("the command is run");
-    (output.status.success() && output.stderr.is_empty(), output.stdout)
-}
-
-fn is_accepted(printed: &[u8]) -> bool {
-    !printed.starts_with(b"refused\t")
-}
-
-/// The number and list of a refusal; else whether any entry is there, and how many clusters.
-fn kind(printed: &[u8]) -> String {
-    let text = String::from_utf8_lossy(printed);
-    let fields = |line: &str| line.split('\t').map(str::to_string).collect::<Vec<_>>();
-    if !is_accepted(printed) {
-        let fields = fields(&text);
-        return format!("refused {}/{}", fields[1], fields[2]);
-    }
-    let lines: Vec<Vec<String>> = text.lines().map(fields).collect();
+/// How many clusters, and whether some are undecided.
+fn of_table(printed: &str) -> String {
+    let lines: Vec<Vec<&str>> = printed.lines().map(|line| line.split('\t').collect()).collect();
     let (_, entries) = lines[1..].split_last().expect("a total line");
     let clusters = entries.last().map_or(0, |entry| 1 + entry[2].parse::<u32>().expect("a number"));
     let clusters = match clusters {
@@ -100,14 +82,32 @@ fn kind(printed: &[u8]) -> String {
     format!("{clusters}{}", if is_undecided { " (some undecided)" } else { "" })
 }
 
-/// The first line that differs, as it should be and as it is.
-fn told(expected: &[u8], printed: &[u8]) -> String {
-    let lines =
-        |bytes: &[u8]| bytes.split(|byte| *byte == b'\n').map(<[u8]>::to_vec).collect::<Vec<_>>();
-    let (expected, printed) = (lines(expected), lines(printed));
-    let same = expected.iter().zip(&printed).take_while(|(one, other)| one == other).count();
-    let shown = |lines: &[Vec<u8>]| {
-        lines.get(same).map_or("nothing".to_string(), |line| line.escape_ascii().to_string())
+/// Which counts are not zero in some list.
+fn of_counts(printed: &str) -> String {
+    let numbers: Vec<&str> = printed.trim_end().split('\t').collect();
+    let is_there = |kind: &usize| numbers[*kind] != "0" || numbers[kind + 3] != "0";
+    let names = ["matched", "unmatched", "undecided"];
+    let there: Vec<&str> = (0..3).filter(is_there).map(|kind| names[kind]).collect();
+    if there.is_empty() {
+        "no entry".to_string()
+    } else {
+        there.join(" and ")
+    }
+}
+
+/// How many runs, and whether a share is none, of the lot or of a run.
+fn of_report(printed: &str) -> String {
+    let lines: Vec<&str> = printed.lines().collect();
+    let runs = match lines.len() - 2 {
+        1 => "one run",
+        2..=255 => "runs",
+        _ => "256 runs",
     };
-    format!("line {}: expected {}, printed {}", same + 1, shown(&expected), shown(&printed))
+    let is_none = |line: &&str| line.contains("\tnone");
+    let none = match (is_none(&lines[lines.len() - 1]), lines.iter().any(|line| is_none(&line))) {
+        (true, _) => " (none for the lot)",
+        (_, true) => " (none for a run)",
+        _ => "",
+    };
+    format!("{runs}{none}")
 }

@@ -1,7 +1,7 @@
 //! One call of the C library with all that is lent to it, and what the rules demand that it answers
 //! and leaves.
 
-use crate::{Cluster, Marked, Refusal, Shown};
+use crate::{Cluster, Counts, Marked, Refusal, Shown};
 
 /// What every call is lent, the call itself, and what it must come to.
 pub struct Case {
@@ -11,13 +11,14 @@ pub struct Case {
     pub expected: Told,
 }
 
-/// A call, with what only it is given. `out`, the plan of `Plan` and `marks` are what it may write.
+/// A call, with what only it is given. `out`, the plan of `Plan` and the marks of `Mark` are what it may write.
 #[derive(Clone, Debug)]
 pub enum Call {
     Allele { text: Vec<u8>, entry: usize, allele: usize },
     Normal { text: Vec<u8>, out: Vec<u8> },
     Plan { texts: [Vec<u8>; 2], plan: Vec<Cluster> },
     Mark { texts: [Vec<u8>; 2], plan: Vec<Cluster>, cluster: usize, marks: Vec<u8> },
+    Count { texts: [Vec<u8>; 2], marks: Vec<u8> },
 }
 
 /// What is told of a call.
@@ -30,13 +31,13 @@ pub struct Told {
     pub left: Vec<u8>,
 }
 
-/// The four numbers of `card_answer` in include/card.h.
-#[derive(Clone, Copy, Debug, PartialEq, Eq)]
+/// The numbers of `card_answer` in include/card.h, with its one value, or those of `card_counts`, with six.
+#[derive(Clone, Debug, PartialEq, Eq)]
 pub struct Answer {
     pub number: u32,
     pub list: u32,
     pub line: u32,
-    pub value: u32,
+    pub values: Vec<u32>,
 }
 
 /// The value that says that a cluster is undecided.
@@ -65,6 +66,10 @@ impl Case {
                 lent.extend([("first", first.clone()), ("second", second.clone())]);
                 lent.extend([("plan", plan_bytes(plan)), ("marks", marks.clone())]);
             }
+            Call::Count { texts: [first, second], marks } => {
+                lent.extend([("first", first.clone()), ("second", second.clone())]);
+                lent.push(("marks", marks.clone()));
+            }
         }
         lent
     }
@@ -73,7 +78,7 @@ impl Case {
     pub fn numbers(&self) -> Vec<usize> {
         match self.call {
             Call::Allele { entry, allele, .. } => vec![entry, allele],
-            Call::Normal { .. } | Call::Plan { .. } => Vec::new(),
+            Call::Normal { .. } | Call::Plan { .. } | Call::Count { .. } => Vec::new(),
             Call::Mark { cluster, .. } => vec![cluster],
         }
     }
@@ -89,7 +94,7 @@ fn expected(reference: &[u8], name: &[u8], call: &Call) -> (Answer, Vec<u8>) {
     match call {
         Call::Allele { text, entry, allele } => {
             let shown = crate::allele(reference, name, text, *entry, *allele);
-            (shown.map_or_else(Answer::refused, Answer::shown), Vec::new())
+            (shown.map_or_else(|refusal| Answer::refused(refusal, 1), Answer::shown), Vec::new())
         }
         Call::Normal { text, out } => {
             let mut left = out.clone();
@@ -110,6 +115,10 @@ fn expected(reference: &[u8], name: &[u8], call: &Call) -> (Answer, Vec<u8>) {
             };
             (Answer::of(marked.map(value)), left)
         }
+        Call::Count { texts: [first, second], marks } => {
+            let counts = crate::count(reference, name, first, second, marks);
+            (counts.map_or_else(|refusal| Answer::refused(refusal, 6), Answer::counted), Vec::new())
+        }
     }
 }
 
@@ -120,13 +129,23 @@ fn plan_bytes(plan: &[Cluster]) -> Vec<u8> {
 
 impl Answer {
     fn of(value: Result<u32, Refusal>) -> Answer {
-        let given = |value| Answer { number: 0, list: 0, line: 0, value };
-        value.map_or_else(Answer::refused, given)
+        value.map_or_else(|refusal| Answer::refused(refusal, 1), |value| Answer::given(vec![value]))
     }
 
-    fn refused(refusal: Refusal) -> Answer {
+    fn given(values: Vec<u32>) -> Answer {
+        Answer { number: 0, list: 0, line: 0, values }
+    }
+
+    /// Each of so many values is 0.
+    fn refused(refusal: Refusal, values: usize) -> Answer {
         let Refusal { number, list, line } = refusal;
-        Answer { number, list, line, value: 0 }
+        Answer { number, list, line, values: vec![0; values] }
+    }
+
+    /// Those of list 1 first.
+    fn counted(counts: [Counts; 2]) -> Answer {
+        let three = |count: Counts| [count.matched, count.unmatched, count.undecided];
+        Answer::given(counts.map(three).concat())
     }
 
     /// List 0 is the reference, 1 the text.
@@ -135,6 +154,6 @@ impl Answer {
             Shown::Reference { start, length } => (0, start, length),
             Shown::Text { start, length } => (1, start, length),
         };
-        Answer { number: 0, list, line: start as u32, value: length as u32 }
+        Answer { number: 0, list, line: start as u32, values: vec![length as u32] }
     }
 }

@@ -45,21 +45,25 @@ fn call_number(call: &Call) -> u32 {
         Call::Normal { .. } => 2,
         Call::Plan { .. } => 3,
         Call::Mark { .. } => 4,
+        Call::Count { .. } => 5,
     }
 }
 
 fn writes(call: &Call) -> bool {
-    !matches!(call, Call::Allele { .. })
+    !matches!(call, Call::Allele { .. } | Call::Count { .. })
 }
 
-/// What the driver tells of a call that leaves `length` bytes; None where it ended without.
-pub fn read_told(output: &mut impl Read, length: usize) -> Option<Told> {
+/// What the driver tells of a call that answers as many values and leaves as many bytes as are expected;
+/// None where it ended without.
+pub fn read_told(output: &mut impl Read, expected: &Told) -> Option<Told> {
     let mut number = || {
         let mut bytes = [0; 4];
         output.read_exact(&mut bytes).ok().map(|()| u32::from_le_bytes(bytes))
     };
-    let answer = Answer { number: number()?, list: number()?, line: number()?, value: number()? };
-    let (mut changed, mut left) = ([0], vec![0; length]);
+    let [row, list, line] = [number()?, number()?, number()?];
+    let values = expected.answer.values.iter().map(|_| number()).collect::<Option<Vec<u32>>>()?;
+    let answer = Answer { number: row, list, line, values };
+    let (mut changed, mut left) = ([0], vec![0; expected.left.len()]);
     output.read_exact(&mut changed).ok()?;
     output.read_exact(&mut left).ok()?;
     Some(Told { answer, changed: changed != [0], left })

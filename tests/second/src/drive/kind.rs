@@ -2,6 +2,7 @@
 
 use super::case::{Call, Case};
 use super::draw::Asked;
+use crate::card::ENTRIES_MOST;
 use crate::normal_loop::normal_loop;
 use std::fmt::{self, Display};
 
@@ -20,6 +21,8 @@ const OF_NORMAL: [(u32, &str); 4] =
 const OF_PLAN: [(u32, &str); 4] = [(0, "none"), (0, "one"), (0, "several"), (0, "full")];
 const OF_MARK: [(u32, &str); 5] =
     [(0, "up to 9"), (0, "10 or 11"), (0, "12"), (0, "13"), (0, "above 13")];
+const OF_COUNT: [(u32, &str); 4] =
+    [(0, "no entry"), (0, "marks alone"), (0, "other bytes"), (0, "full")];
 
 /// The kinds that the calls of a run can answer.
 pub fn kinds(asked: Asked) -> Vec<Kind> {
@@ -28,6 +31,7 @@ pub fn kinds(asked: Asked) -> Vec<Kind> {
         Asked::Normal => ("normal", &OF_NORMAL, &[1, 2], 1),
         Asked::Plan => ("plan", &OF_PLAN, &[1, 2], 2),
         Asked::Mark => ("mark", &OF_MARK, &[1, 2, 16, 17], 2),
+        Asked::Count => ("count", &OF_COUNT, &[1, 2], 2),
         Asked::Mutated => return kinds_of_small_lists(),
     };
     let answered = answered.iter().map(|(list, what)| (0, *list, *what));
@@ -45,16 +49,18 @@ fn kinds_of_small_lists() -> Vec<Kind> {
 
 impl Kind {
     pub fn of(case: &Case) -> Kind {
-        let answer = case.expected.answer;
+        let answer = &case.expected.answer;
         let (call, what) = match &case.call {
             Call::Allele { .. } => ("allele", OF_ALLELE[(answer.list == 1) as usize].1),
             Call::Normal { text, .. } if answer.number == 0 => ("normal", normal(case, text)),
             Call::Normal { .. } => ("normal", ""),
-            Call::Plan { .. } => ("plan", OF_PLAN[clusters(answer.value)].1),
+            Call::Plan { .. } => ("plan", OF_PLAN[clusters(answer.values[0])].1),
             Call::Mark { plan, cluster, .. } if answer.number == 0 => {
                 ("mark", OF_MARK[entries(plan[*cluster].count)].1)
             }
             Call::Mark { .. } => ("mark", ""),
+            Call::Count { texts, .. } if answer.number == 0 => ("count", counted(case, texts)),
+            Call::Count { .. } => ("count", ""),
         };
         let what = if answer.number == 0 { what } else { "" };
         Kind { call, number: answer.number, list: answer.list, what }
@@ -62,7 +68,7 @@ impl Kind {
 }
 
 fn normal(case: &Case, text: &[u8]) -> &'static str {
-    let length = case.expected.answer.value as usize;
+    let length = case.expected.answer.values[0] as usize;
     let list = crate::read(&case.reference, &case.name, 1, text).expect("accepted");
     let pos = list.records.iter().map(|record| normal_loop(&case.reference, &record.entry).pos);
     let what = if case.expected.left[..length] == *text {
@@ -75,6 +81,19 @@ fn normal(case: &Case, text: &[u8]) -> &'static str {
         3
     };
     OF_NORMAL[what].1
+}
+
+fn counted(case: &Case, texts: &[Vec<u8>; 2]) -> &'static str {
+    let read = |text| crate::read(&case.reference, &case.name, 1, text).expect("accepted");
+    let entries: usize = texts.iter().map(|text| read(text).records.len()).sum();
+    let marks: u32 = case.expected.answer.values.iter().sum();
+    let what = match entries {
+        0 => 0,
+        ENTRIES_MOST => 3,
+        _ if marks as usize == entries => 1,
+        _ => 2,
+    };
+    OF_COUNT[what].1
 }
 
 fn clusters(count: u32) -> usize {

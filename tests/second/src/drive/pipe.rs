@@ -26,7 +26,7 @@ pub fn drive(
     thread::scope(|scope| {
         scope.spawn(move || send(input, cases, &sent));
         for case in sent_cases {
-            let told = read_told(&mut output, case.expected.left.len());
+            let told = read_told(&mut output, &case.expected);
             let ended = told.is_none();
             each(case, told);
             if ended {

@@ -2,7 +2,7 @@
 
 use super::lists::{text, text_of, NAME};
 use super::world::World;
-use second::{Cluster, Marked, Refusal};
+use second::{Cluster, Counts, Marked, Refusal};
 
 /// What lent memory holds before a call.
 pub const OLD_MARK: u8 = b'm';
@@ -63,6 +63,11 @@ impl Case {
         let entries = plan.map(|plan| plan.iter().map(|cluster| cluster.count as usize).sum());
         let marks = keep_written(marks, entries, OLD_MARK)?;
         Ok((String::from_utf8(marks).expect("marks are ASCII"), done?.1))
+    }
+
+    /// What these marks count.
+    pub fn count(&self, marks: &[u8]) -> Result<[Counts; 2], Refusal> {
+        second::count(&self.reference, NAME, &self.first, &self.second, marks)
     }
 
     /// What `compare` prints.

@@ -23,9 +23,12 @@ fn refusals_of_pair(reference: &[u8], first: &[u8], second: &[u8]) -> Vec<Refusa
         case.plan().expect_err("plan"),
         case.mark(&[], 0, &mut marks).expect_err("mark"),
         case.marks().expect_err("mark_all"),
+        case.count(&marks).expect_err("count"),
     ];
     assert!(marks.iter().all(|mark| *mark == OLD_MARK));
     assert_eq!(case.printed().into_bytes(), refused_line(found[0]));
+    let file = [reference, b"\n"].concat();
+    assert_eq!(second::counts(&file, &case.first, &case.second), refused_line(found[0]));
     found
 }
 

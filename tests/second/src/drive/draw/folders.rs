@@ -1,4 +1,4 @@
-//! Folders for program compare: its three files, of lists as drawn or broken, and of files that are missing or end in
+//! Folders for programs compare and counts: their three files, of lists as drawn or broken, and of files that are missing or end in
 //! another way.
 
 use super::random_of;
@@ -31,7 +31,7 @@ pub fn folder(seed: u64, number: u64) -> Folder {
     folder
 }
 
-/// With the name that the program gives.
+/// With the name that the programs give.
 fn renamed(list: Drawn) -> Drawn {
     let mut list = Drawn { name: NAME.to_vec(), ..list };
     for fields in &mut list.records {

@@ -3,14 +3,15 @@
 //!
 //! - `spoil` breaks what is lent
 //! - `one_list` draws the calls of one list, `allele` and `normal`
-//! - `two_lists` draws `plan`, `marks` whole rows of calls of `mark` on one buffer
-//! - `mutated` draws rows of all calls, with bytes changed
-//! - `folders` draws what program compare reads
+//! - `two_lists` draws `plan` and `count`, `marks` whole rows of calls of `mark` on one buffer
+//! - `mutated` draws rows of all calls but `count`, with bytes changed
+//! - `folders` draws what programs compare and counts read, `runs` what lot_report reads
 
 pub mod folders;
 mod marks;
 mod mutated;
 mod one_list;
+pub mod runs;
 mod spoil;
 mod two_lists;
 
@@ -24,7 +25,8 @@ pub enum Asked {
     Normal,
     Plan,
     Mark,
-    /// All four, with bytes changed in what they are lent.
+    Count,
+    /// All of them but `Count`, with bytes changed in what they are lent.
     Mutated,
 }
 
@@ -35,6 +37,7 @@ impl Asked {
             "normal" => Some(Asked::Normal),
             "plan" => Some(Asked::Plan),
             "mark" => Some(Asked::Mark),
+            "count" => Some(Asked::Count),
             "mutated" => Some(Asked::Mutated),
             _ => None,
         }
@@ -49,6 +52,7 @@ pub fn draw(asked: Asked, seed: u64, number: u64) -> Vec<Case> {
         Asked::Normal => vec![one_list::normal(random)],
         Asked::Plan => vec![two_lists::plan(random)],
         Asked::Mark => marks::row(random),
+        Asked::Count => vec![two_lists::count(random)],
         Asked::Mutated => mutated::row(random),
     }
 }

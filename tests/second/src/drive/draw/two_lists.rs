@@ -1,5 +1,6 @@
-//! What the calls of two lists are lent, and the calls of `plan`.
+//! What the calls of two lists are lent, and the calls of `plan` and `count`.
 
+use super::any_room;
 use super::spoil::{other_name, spoil_reference, spoiled_text};
 use crate::card::ENTRIES_MOST;
 use crate::drawn::list::Drawn;
@@ -51,15 +52,33 @@ pub fn lists(random: &mut Random) -> [Drawn; 2] {
     }
 }
 
-/// Half of the lists are as drawn, the others broken.
-pub fn plan(random: &mut Random) -> Case {
+/// Half of them are as drawn, the others broken.
+fn two_lists(random: &mut Random) -> TwoLists {
     let lists = lists(random);
-    let two = match random.once_in(2) {
+    match random.once_in(2) {
         true => TwoLists::of(&lists),
         false => TwoLists::spoiled(random, &lists),
-    };
+    }
+}
+
+pub fn plan(random: &mut Random) -> Case {
+    let two = two_lists(random);
     let plan = any_plan(random);
     Case::new(&two.reference, &two.name, Call::Plan { texts: two.texts, plan })
+}
+
+/// The marks are marks alone, or some other bytes are among them, or they are any bytes.
+pub fn count(random: &mut Random) -> Case {
+    let two = two_lists(random);
+    let length = any_length(random);
+    let mut marks = any_room(random, length);
+    let any_in = *random.pick(&[usize::MAX, usize::MAX, 1, 8, 200]);
+    for mark in &mut marks {
+        if !random.once_in(any_in) {
+            *mark = *random.pick(b"+-0?");
+        }
+    }
+    Case::new(&two.reference, &two.name, Call::Count { texts: two.texts, marks })
 }
 
 /// Room for a plan: of the least size mostly, with any records in it.
