@@ -30,7 +30,7 @@ returns : tie.Need-returns Inv-loop μ-loop
 returns c =
     let bs = c .before .before .before .before .before .before .args .bytes .now in
     let i = c .before .before .before .before .loop .i in
-    cc (letters-stop bs i (omega arith) (cc))
+    sym (letters-stop bs i (omega arith) (sym (c .before .letter .ensures) ∙ c .if1 .taken)) ∙ c .before .before .before .before .loop .inv .1
 
 add-i : tie.Need-add-i Inv-loop μ-loop
 add-i c = omega arith
@@ -43,10 +43,11 @@ loop-again c =
     let bs = c .before .before .before .before .before .before .args .bytes .now in
     let i = c .before .before .before .before .loop .i in
     let more = letters-more bs i (omega arith) (λ e. c .if1 .left (c .before .letter .ensures ∙ e)) in
-    (omega arith, cc)
+    (omega arith, sym more ∙ c .before .before .before .before .loop .inv .1)
 
 returns-2 : tie.Need-returns-2 Inv-loop μ-loop
-returns-2 c = cc (letters-past (c .before .before .before .args .bytes .now) (c .before .loop .i) (omega arith))
+returns-2 c =
+    sym (letters-past (c .before .before .before .args .bytes .now) (c .before .loop .i) (omega arith)) ∙ c .before .loop .inv .1
 
 pub all-letters-spec : {M : Type 1} → statement M
 all-letters-spec =

@@ -1,6 +1,7 @@
 -- `bases::period::has_any_period` meets its contract. The loop's invariant: there is a period in 1 .. g exactly if there is one
 -- in 1 .. q. The measure is q. Assumes nothing.
-use mathlib.Core.Path.{_≡_, refl}
+use mathlib.Core.Path.{_≡_, refl, sym, ap, _∙_}
+use Prim.Native.Nat.{ℕ}
 use native.Mathlib.Omega.{arith}
 use borrow.Author.Needs.{needs}
 use Rattle.bases.specs.Letter.{basesOf}
@@ -24,7 +25,7 @@ has-period-requires c κs = search needs
 returns : tie.Need-returns Inv-loop μ-loop
 returns c =
     let y = basesOf (c .before .before .before .before .before .args .stretch .now) in
-    cc (any-period-stop (c .before .before .before .loop .q) y (omega arith) (cc))
+    sym (any-period-stop (c .before .before .before .loop .q) y (omega arith) (sym (c .before .has-period .ensures) ∙ c .if1 .taken)) ∙ c .before .before .before .loop .inv
 
 sub-q : tie.Need-sub-q Inv-loop μ-loop
 sub-q c = omega arith
@@ -35,13 +36,13 @@ loop-less c = omega arith
 loop-again : tie.Need-loop-again Inv-loop μ-loop
 loop-again c =
     let y = basesOf (c .before .before .before .before .before .args .stretch .now) in
-    cc (any-period-more (c .before .before .before .loop .q) y (omega arith) (cc))
+    sym (any-period-more (c .before .before .before .loop .q) y (omega arith) (sym (c .before .has-period .ensures) ∙ c .if1 .left)) ∙ c .before .before .before .loop .inv
 
 returns-2 : tie.Need-returns-2 Inv-loop μ-loop
 returns-2 c =
     let y = basesOf (c .before .before .before .args .stretch .now) in
     let e : c .before .loop .q ≡ 0 = omega arith in
-    cc (any-period-zero y)
+    sym (any-period-zero y) ∙ sym (ap (λ (k : ℕ). anyPeriod? k y) e) ∙ c .before .loop .inv
 
 pub has-any-period-spec : {M : Type 1} → statement M
 has-any-period-spec =

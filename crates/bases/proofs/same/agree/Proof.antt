@@ -27,7 +27,7 @@ returns c =
     let a = c .before .before .before .before .before .args .a .now in
     let b = c .before .before .before .before .before .args .b .now in
     let i = c .before .before .loop .i in
-    cc (agree-past-second (drop i (basesOf a)) (basesOf b) i (rw bases-length (c .if1 .taken)))
+    sym (agree-past-second (drop i (basesOf a)) (basesOf b) i (rw bases-length (c .if1 .taken))) ∙ c .before .before .loop .inv .1
 
 shared-slice-read-is-same : tie.Need-shared-slice-read-is-same Inv-loop μ-loop
 shared-slice-read-is-same c = omega arith
@@ -44,8 +44,9 @@ returns-2 c =
     let b = c .before .before .before .before .before .before .before .before .before .args .b .now in
     let i = c .before .before .before .before .before .before .loop .i in
     let n = eqb-false _ _ (sym (c .before .is-same .ensures) ∙ not-true _ (c .if2 .taken)) in
-    cc (agree-stop (basesOf a) (basesOf b) i (rw bases-length (omega arith)) (rw bases-length (omega arith))
-    (λ e. n (sym (bases-at a i) ∙ e ∙ bases-at b i)))
+    let stop = agree-stop (basesOf a) (basesOf b) i (rw bases-length (omega arith)) (rw bases-length (omega arith))
+    (λ e. n (sym (bases-at a i) ∙ e ∙ bases-at b i)) in
+    sym stop ∙ c .before .before .before .before .before .before .loop .inv .1
 
 add-i : tie.Need-add-i Inv-loop μ-loop
 add-i c = omega arith
@@ -61,14 +62,14 @@ loop-again c =
     let e = eqb-true _ _ (sym (c .before .is-same .ensures) ∙ not-false _ (c .if2 .left)) in
     let more = agree-more (basesOf a) (basesOf b) i (rw bases-length (omega arith)) (rw bases-length (omega arith))
     (bases-at a i ∙ e ∙ sym (bases-at b i)) in
-    (omega arith, cc)
+    (omega arith, sym more ∙ c .before .before .before .before .before .before .loop .inv .1)
 
 returns-3 : tie.Need-returns-3 Inv-loop μ-loop
 returns-3 c =
     let a = c .before .before .before .before .args .a .now in
     let b = c .before .before .before .before .args .b .now in
     let i = c .before .loop .i in
-    cc (agree-past-first (basesOf a) (drop i (basesOf b)) i (rw bases-length (omega arith)))
+    sym (agree-past-first (basesOf a) (drop i (basesOf b)) i (rw bases-length (omega arith))) ∙ c .before .loop .inv .1
 
 pub agree-spec : {M : Type 1} → statement M
 agree-spec =

@@ -1,7 +1,7 @@
 -- `vcf::field::has_ten_fields` meets its contract. The loop's invariant: the line is ten full fields exactly if it is `left` full fields from `at` on, and
 -- `at` stays within ten of the line's end. The measure is `left`. Assumes nothing.
-use mathlib.Core.Path.{_≡_, refl}
-use Prim.Native.Nat.{_+_, _≤_}
+use mathlib.Core.Path.{_≡_, refl, sym, ap, _∙_}
+use Prim.Native.Nat.{ℕ, _+_, _-_, _≤_}
 use native.Mathlib.Omega.{arith}
 use borrow.Author.Needs.{needs}
 use lib.ListN.{length}
@@ -28,7 +28,7 @@ returns c =
     let l = c .before .before .before .before .before .args .line .now in
     let at = c .before .before .before .loop .at in
     let left = c .before .before .before .loop .left in
-    cc (full-stop left l at (omega arith) (omega arith))
+    sym (full-stop left l at (omega arith) (omega arith)) ∙ c .before .before .before .loop .inv .0
 
 add-at : tie.Need-add-at Inv-loop μ-loop
 add-at c = omega (arith, until-within TAB (c .before .before .before .before .before .args .line .now) (c .before .before .before .loop .at))
@@ -45,7 +45,8 @@ loop-again c =
     let at = c .before .before .before .loop .at in
     let left = c .before .before .before .loop .left in
     let w = until-within TAB l at in
-    (cc (full-more left l at (omega arith) (omega arith)), omega arith, omega arith)
+    let more = full-more left l at (omega arith) (omega arith) in
+    (ap (λ (e : ℕ). full? (left - 1) l (e + 1)) (c .before .find .ensures) ∙ sym more ∙ c .before .before .before .loop .inv .0, omega arith, omega arith)
 
 add-result : tie.Need-add-result Inv-loop μ-loop
 add-result c = omega arith
@@ -53,7 +54,9 @@ add-result c = omega arith
 returns-2 : tie.Need-returns-2 Inv-loop μ-loop
 returns-2 c =
     let e : c .before .loop .left ≡ 0 = omega arith in
-    cc (full-zero (c .before .before .before .args .line .now) (c .before .loop .at))
+    let l = c .before .before .before .args .line .now in
+    let at = c .before .loop .at in
+    sym (full-zero l at) ∙ sym (ap (λ (k : ℕ). full? k l at) e) ∙ c .before .loop .inv .0
 
 pub has-ten-fields-spec : {M : Type 1} → statement M
 has-ten-fields-spec =

@@ -1,7 +1,7 @@
 -- `vcf::field::skip_fields` meets its contract. The loop's invariant: `left` fields behind `at` is `count` fields behind the start, and `at` stays
 -- within `count` of the line's end. The measure is `left`. Assumes nothing.
-use mathlib.Core.Path.{_≡_, refl}
-use Prim.Native.Nat.{_+_, _≤_}
+use mathlib.Core.Path.{_≡_, refl, sym, ap, _∙_}
+use Prim.Native.Nat.{ℕ, _+_, _-_, _≤_}
 use native.Mathlib.Omega.{arith}
 use borrow.Author.Needs.{needs}
 use lib.ListN.{length}
@@ -38,12 +38,15 @@ loop-again c =
     let at = c .before .before .loop .at in
     let left = c .before .before .loop .left in
     let w = until-within TAB l at in
-    (cc (skip-more left l at (omega arith)), omega arith, omega arith)
+    let more = skip-more left l at (omega arith) in
+    (ap (λ (e : ℕ). skip (left - 1) l (e + 1)) (c .find .ensures) ∙ sym more ∙ c .before .before .loop .inv .0, omega arith, omega arith)
 
 returns : tie.Need-returns Inv-loop μ-loop
 returns c =
     let e : c .before .loop .left ≡ 0 = omega arith in
-    cc (skip-zero (c .before .before .before .args .line .now) (c .before .loop .at))
+    let l = c .before .before .before .args .line .now in
+    let at = c .before .loop .at in
+    sym (skip-zero l at) ∙ sym (ap (λ (k : ℕ). skip k l at) e) ∙ c .before .loop .inv .0
 
 pub skip-fields-spec : {M : Type 1} → statement M
 skip-fields-spec =

@@ -2,7 +2,7 @@
 use borrow.Author.Needs.{needs}
 use borrow.Author.Tests.{eq-eqb, ne-eqb}
 use mathlib.Core.Bool.{true, false}
-use mathlib.Core.Path.{_≡_}
+use mathlib.Core.Path.{_≡_, sym, _∙_}
 use Rattle.vcf.specs.Header.{headerLine?, headerWrong?}
 use Rattle.vcf.proofs.header.header_wrong.Statement.{statement}
 use Rattle.vcf.proofs.header.header_wrong.Tie as tie
@@ -20,7 +20,7 @@ is-header-line-requires c κs = search needs
 returns-2 : tie.Need-returns-2
 unfolding headerWrong?
 returns-2 c =
-    let e : headerLine? (c .before .before .before .before .args .line .now) ≡ true = cc in
+    let e : headerLine? (c .before .before .before .before .args .line .now) ≡ true = sym (c .before .is-header-line .ensures) ∙ c .if2 .taken in
     simp (ne-eqb _ _ (c .before .before .if1 .left), e)
 
 is-column-line-requires : tie.Need-is-column-line-requires
@@ -29,7 +29,7 @@ is-column-line-requires c κs = search needs
 returns-3 : tie.Need-returns-3
 unfolding headerWrong?
 returns-3 c =
-    let e : headerLine? (c .before .before .before .before .before .args .line .now) ≡ false = cc in
+    let e : headerLine? (c .before .before .before .before .before .args .line .now) ≡ false = sym (c .before .before .is-header-line .ensures) ∙ c .before .if2 .left in
     simp (ne-eqb _ _ (c .before .before .before .if1 .left), e, c .is-column-line .ensures)
 
 pub header-wrong-spec : {M : Type 1} → statement M

@@ -1,7 +1,10 @@
 -- `vcf::record::pos_on` meets its contract: the field is read where it begins. Assumes nothing.
+use mathlib.Core.Path.{ap, _∙_}
 use native.Mathlib.Omega.{arith}
 use borrow.Author.Needs.{needs}
 use lib.Dec.{lit<}
+use Rattle.vcf.specs.Field.{fieldFrom}
+use Rattle.vcf.specs.Pos.{readPos}
 use Rattle.vcf.proofs.FieldLaws.{field-within, read}
 use Rattle.vcf.proofs.record.pos_on.Statement.{statement}
 use Rattle.vcf.proofs.record.pos_on.Tie as tie
@@ -15,7 +18,9 @@ read-pos-requires : tie.Need-read-pos-requires
 read-pos-requires c κs = search needs
 
 returns : tie.Need-returns
-returns c = cc (read (c .before .before .before .args .line .now) (c .before .before .before .args .fields) (c .before .before .before .pre .1) .pos)
+returns c =
+    let l = c .before .before .before .args .line .now in
+    c .read-pos .ensures ∙ ap readPos (c .before .field-from .ensures ∙ ap (fieldFrom l) (read l (c .before .before .before .args .fields) (c .before .before .before .pre .1) .pos))
 
 pub pos-on-spec : {M : Type 1} → statement M
 pos-on-spec = tie.close (tie.spec field-from-requires read-pos-requires returns)

@@ -1,9 +1,12 @@
 -- `vcf::record::ref_wrong` meets its contract: the field is read where it begins. Assumes nothing.
-use mathlib.Core.Path.{_≡_, ap, sym, _∙_}
+use mathlib.Core.Bool.{not}
+use mathlib.Core.Path.{ap, _∙_}
 use native.Mathlib.Omega.{arith}
 use borrow.Author.Needs.{needs}
 use lib.Dec.{lit<}
+use Rattle.vcf.specs.Allele.{isAllele?}
 use Rattle.vcf.proofs.FieldLaws.{field-within, read}
+use Rattle.vcf.proofs.RecordLaws.{reference-read}
 use Rattle.vcf.proofs.record.ref_wrong.Statement.{statement}
 use Rattle.vcf.proofs.record.ref_wrong.Tie as tie
 
@@ -16,7 +19,9 @@ is-allele-requires : tie.Need-is-allele-requires
 is-allele-requires c κs = search needs
 
 returns : tie.Need-returns
-returns c = cc (read (c .before .before .before .args .line .now) (c .before .before .before .args .fields) (c .before .before .before .pre .1) .reference)
+returns c =
+    let l = c .before .before .before .args .line .now in
+    ap not (c .is-allele .ensures ∙ ap isAllele? (reference-read l (c .before .before .before .pre .1) (c .before .field-from .ensures)))
 
 pub ref-wrong-spec : {M : Type 1} → statement M
 ref-wrong-spec = tie.close (tie.spec field-from-requires is-allele-requires returns)
