@@ -9,7 +9,7 @@
 use mathlib.Core.Bool.{Bool, true, false, not, _&&_, _||_}
 use mathlib.Core.List.{List, [], _∷_}
 use mathlib.Core.Logic.{_↔_, _⊎_, inl, inr, ⊎-elim}
-use mathlib.Core.Path.{_≡_, refl, sym, ap, _∙_}
+use mathlib.Core.Path.{_≡_, refl, ap, _∙_}
 use Prim.Native.Nat.{ℕ, zero, suc, _+_, _≤_, _<_}
 use native.Mathlib.Nat.{not-suc-le-zero, le-of-suc-le-suc}
 use native.Mathlib.Numerals.{add-one}
@@ -18,8 +18,9 @@ use lib.Dec.{T, eqb, eqb→eq}
 use lib.ListN.{length, getD, take, drop, drop-of-length-le}
 use lib.Seq.{drop-cons}
 use borrow.Author.Tests.{ne-eqb}
-use Rattle.bases.specs.Letter.{letters, among?, pick, letterOf, isLetter?, allLetters?, basesOf}
+use Rattle.bases.specs.Letter.{letters, among?, letterOf, isLetter?, allLetters?, basesOf}
 use Rattle.bases.proofs.TestLaws.{both, either}
+use Rattle.bases.specs.Pick.{pick}
 
 -- The byte is A, C, G, N or T.
 abbrev pub Letter : ℕ → Type 0

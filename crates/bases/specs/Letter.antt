@@ -5,6 +5,7 @@ use mathlib.Core.Bool.{Bool, true, false, not, _&&_, _||_}
 use mathlib.Core.List.{List, [], _∷_, map}
 use Prim.Native.Nat.{ℕ}
 use lib.Dec.{eqb}
+use Rattle.bases.specs.Pick.{pick}
 
 -- A, C, G, N and T, as bytes.
 abbrev pub letters : List ℕ
@@ -14,11 +15,6 @@ letters = 65 ∷ 67 ∷ 71 ∷ 78 ∷ 84 ∷ []
 unfoldable pub among? : ℕ → List ℕ → Bool
 among? b [] = false
 among? b (x ∷ xs) = eqb b x || among? b xs
-
--- The first of two numbers where the test holds, else the second.
-abbrev pub pick : Bool → ℕ → ℕ → ℕ
-pick true a b = a
-pick false a b = b
 
 -- The letter that a byte is: each of the letters is itself, and any other byte is none, written 0.
 unfoldable pub letterOf : ℕ → ℕ

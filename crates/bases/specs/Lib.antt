@@ -1,5 +1,6 @@
 pub mod Letter
 pub mod Period
+pub mod Pick
 pub mod Place
 pub mod Put
 pub mod Reference

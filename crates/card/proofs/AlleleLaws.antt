@@ -20,9 +20,10 @@ use borrow.Author.Tests.{eqb-true}
 use lib.Dec.{T, eqb, leb, leb→le}
 use lib.ListN.{length, take, drop, length-drop}
 use lib.Seq.{length-take-le}
-use Rattle.bases.specs.Letter.{pick, allLetters?, basesOf}
+use Rattle.bases.specs.Letter.{allLetters?, basesOf}
 use Rattle.bases.proofs.ReferenceLaws.{reference-iff}
 use Rattle.bases.proofs.TestLaws.{both}
+use Rattle.bases.specs.Pick.{pick}
 use Rattle.vcf.specs.declared.entry.Entry.{Entry}
 use Rattle.vcf.specs.Allele.{longestAllele, isAllele?, firstAlt, twoAlts?, secondAlt}
 use Rattle.vcf.specs.Entry.{lineAt, entryOf, recordAt}
@@ -34,7 +35,7 @@ use Rattle.vcf.proofs.PartLaws.{first-within, second-within, first-bytes, secon
 use Rattle.vcf.proofs.RecordLineLaws.{first-allele, second-allele}
 use Rattle.card.specs.declared.allele.Shown.{Shown}
 use Rattle.card.specs.declared.refusal.Refusal.{Refusal}
-use Rattle.card.specs.Allele.{entryNumber, alleleRefusal, pickShown, ofReference, ofText, shownOf, refusedShown, shown, pickList, bytesShown}
+use Rattle.card.specs.Allele.{entryNumber, alleleRefusal, ofReference, ofText, shownOf, refusedShown, shown, bytesShown}
 use Rattle.card.specs.Refusal.{noRefusal}
 use Rattle.card.proofs.RefusalLaws.{NoneHolds, First, first-none, none-holds, refused-iff, answered-iff}
 use Rattle.card.proofs.ShownLaws.{alleleChecks, checks-numbered, shown-refused, Answered, answered}
@@ -52,7 +53,7 @@ module _ (reference name text : List ℕ) (i k : ℕ) where
   shown-of-refusal : (e : Entry) → shownOf e k .refusal ≡ noRefusal
   shown-of-refusal e = go (eqb k 0) (eqb k 1)
     where
-      go : (s t : Bool) → pickShown s (ofReference (e .pos .0 - 1) (e .reference .len)) (pickShown t (ofText (e .first .at) (e .first .len)) (ofText (e .second .at) (e .second .len))) .refusal ≡ noRefusal
+      go : (s t : Bool) → pick s (ofReference (e .pos .0 - 1) (e .reference .len)) (pick t (ofText (e .first .at) (e .first .len)) (ofText (e .second .at) (e .second .len))) .refusal ≡ noRefusal
       go true t = refl
       go false true = refl
       go false false = refl
@@ -64,7 +65,7 @@ module _ (reference name text : List ℕ) (i k : ℕ) where
       r : Refusal
       r = alleleRefusal reference name text i k
 
-      go : (t : Bool) → eqb (alleleRefusal reference name text i k .number) 0 ≡ t → pickShown t (shownOf (entryNumber text i) k) (refusedShown r) .refusal ≡ r
+      go : (t : Bool) → eqb (alleleRefusal reference name text i k .number) 0 ≡ t → pick t (shownOf (entryNumber text i) k) (refusedShown r) .refusal ≡ r
       go true e =
           let none = none-holds (alleleChecks reference name text i k) (checks-numbered reference name text i k) (eqb-true _ 0 e) in
           shown-of-refusal (entryNumber text i) ∙ sym (first-none (alleleChecks reference name text i k) none)
@@ -72,7 +73,7 @@ module _ (reference name text : List ℕ) (i k : ℕ) where
 
   -- A part ends within what it is a part of.
   abbrev pub Fits : Shown → Type 0
-  Fits s = s .part .at + s .part .len ≤ length (pickList (s .text) text reference)
+  Fits s = s .part .at + s .part .len ≤ length (pick (s .text) text reference)
 
   -- The line of record i.
   abbrev pub line : List ℕ
@@ -152,7 +153,7 @@ module _ (reference name text : List ℕ) (i k : ℕ) where
   pub shown-short : shown reference name text i k .part .at + shown reference name text i k .part .len ≤ longestText
   shown-short = go (ℕ-discrete (alleleRefusal reference name text i k .number) 0)
     where
-      short : Answered reference name text i k → (b : Bool) → length (pickList b text reference) ≤ longestText
+      short : Answered reference name text i k → (b : Bool) → length (pick b text reference) ≤ longestText
       short a true = text-fits text (accepted-zero reference name text (a .accepted) .fits)
       short a false = omega (arith, reference-iff reference .0 (a .right) .1)
 

@@ -15,6 +15,7 @@ use lib.Dec.{T}
 use lib.ListN.{length, getD, replicate, length-append, length-replicate, getD-replicate}
 use Rattle.bases.specs.Letter.{basesOf}
 use Rattle.bases.proofs.TestLaws.{is-true}
+use Rattle.bases.specs.Pick.{pick}
 use Rattle.clusters.specs.Marks.{QUESTION, decided?, marksOf, clustersOf, firstEntry, clusterAt, allMarks}
 use Rattle.clusters.specs.Merged.{mergedItems, mergedVariants}
 use Rattle.clusters.specs.Item.{variant}
@@ -25,7 +26,6 @@ use Rattle.clusters.proofs.FirstLaws.{total}
 use Rattle.donors.specs.Apart.{All}
 use Rattle.clusters.proofs.JoinLaws.{joined-at}
 use Rattle.donors.specs.Choice.{Choice, plus, minus, out, Variant, cardRules}
-use Rattle.donors.specs.Table.{pickList}
 use Rattle.matching.specs.Answer.{byteOf}
 use Rattle.matching.specs.Card.{cardScoring, cardFinite, cardBest}
 use Rattle.matching.specs.Cut.{join}
@@ -71,7 +71,7 @@ module _ (reference : List ℕ) where
   pub marks-long : (c : List Variant) → length (marksOf reference c) ≡ length c
   marks-long c = go (decided? c)
     where
-      go : (t : Bool) → length (pickList t (map byteOf (cardBest (basesOf reference) c)) (replicate (length c) QUESTION)) ≡ length c
+      go : (t : Bool) → length (pick t (map byteOf (cardBest (basesOf reference) c)) (replicate (length c) QUESTION)) ≡ length c
       go true = bytes-long (basesOf reference) c
       go false = length-replicate (length c) QUESTION
 
@@ -141,6 +141,6 @@ module _ (reference : List ℕ) where
       pub mark-only : getD (marksOf reference (clusterAt (clustersOf reference first second) k)) i 0 ≡ QUESTION → decided? (clusterAt (clustersOf reference first second) k) ≡ false
       mark-only = go (decided? c) refl
         where
-          go : (t : Bool) → decided? c ≡ t → getD (pickList t (map byteOf (cardBest (basesOf reference) c)) (replicate (length c) QUESTION)) i 0 ≡ QUESTION → decided? c ≡ false
+          go : (t : Bool) → decided? c ≡ t → getD (pick t (map byteOf (cardBest (basesOf reference) c)) (replicate (length c) QUESTION)) i 0 ≡ QUESTION → decided? c ≡ false
           go true e q = absurd (byte-not (cardBest (basesOf reference) c) i (omega (arith, best-long (basesOf reference) c)) q)
           go false e q = e

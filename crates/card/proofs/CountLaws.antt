@@ -4,10 +4,10 @@
 --     count-entries                            where every entry has a mark, the counts of each list add up to its entries
 --     count-marked                             so they do on the marks that `mark_all` leaves
 -- Assumes nothing.
-use mathlib.Core.Bool.{Bool, false}
+use mathlib.Core.Bool.{Bool}
 use mathlib.Core.List.{List}
 use mathlib.Core.Logic.{_↔_, _≢_}
-use mathlib.Core.Path.{_≡_, refl, sym, ap, subst, _∙_}
+use mathlib.Core.Path.{_≡_, sym, ap, _∙_}
 use Prim.Native.Nat.{ℕ, _+_, _≤_}
 use native.Mathlib.Omega.{arith}
 use borrow.Author.Tests.{eq-eqb, ne-eqb, ltb-false}
@@ -17,7 +17,6 @@ use lib.Seq.{take-append-seam}
 use Rattle.bases.specs.Put.{put}
 use Rattle.bases.proofs.PutLaws.{put-length}
 use Rattle.bases.proofs.TestLaws.{neither}
-use Rattle.clusters.specs.declared.count.Counts.{Counts}
 use Rattle.clusters.specs.declared.plan.Cluster.{Cluster}
 use Rattle.clusters.specs.Counts.{countsOf}
 use Rattle.clusters.specs.Marks.{clustersOf, allMarks}
@@ -30,7 +29,7 @@ use Rattle.card.specs.All.{allRefusal, allBytes}
 use Rattle.card.specs.Answer.{refusedAnswer}
 use Rattle.card.specs.Count.{countedOf, noCounts, countRefusal, counted}
 use Rattle.card.specs.Mark.{smallRoom?}
-use Rattle.card.specs.Refusal.{noRefusal, firstRefusal, leastRoom, listsChecks}
+use Rattle.card.specs.Refusal.{noRefusal, leastRoom, listsChecks}
 use Rattle.card.proofs.AllLaws.{all-given}
 use Rattle.card.proofs.ClusterMarks.{marks-all}
 use Rattle.card.proofs.ListsLaws.{lists-numbered, lists-read}

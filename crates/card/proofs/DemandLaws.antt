@@ -4,19 +4,17 @@
 --     after-long, after-others, after-entry, after-asked     its effect byte by byte
 --     demand-3                          what all of them leave
 -- Assumes nothing.
-use mathlib.Core.Bool.{false}
 use mathlib.Core.List.{List, [], _∷_}
 use mathlib.Core.Logic.{_≢_, _⊎_, inl, inr, ⊎-elim}
-use mathlib.Core.Path.{_≡_, refl, sym, ap, _∙_, subst}
-use Prim.Native.Nat.{ℕ, zero, suc, _+_, _≤_, _<_}
+use mathlib.Core.Path.{_≡_, refl, sym, ap, _∙_}
+use Prim.Native.Nat.{ℕ, _+_, _≤_, _<_}
 use native.Mathlib.Decide.{ℕ-discrete, decLt}
 use native.Mathlib.Omega.{arith}
-use lib.Dec.{T}
 use lib.ListN.{length, getD, take, drop, length-drop}
 use lib.Seq.{length-take-le}
 use Rattle.bases.specs.Put.{put}
 use Rattle.bases.proofs.PutLaws.{put-length, put-before, put-inside, put-behind, put-same, put-part}
-use Rattle.clusters.specs.Marks.{QUESTION, decided?, marksOf, clustersOf, firstEntry, clusterAt}
+use Rattle.clusters.specs.Marks.{marksOf, clustersOf, firstEntry, clusterAt}
 use Rattle.clusters.specs.Merged.{mergedVariants}
 use Rattle.clusters.proofs.JoinLaws.{first-apart, first-within}
 use Rattle.donors.specs.Apart.{All}
@@ -24,8 +22,7 @@ use Rattle.donors.specs.Choice.{Variant}
 use Rattle.matching.specs.BestOf.{Some}
 use Rattle.vcf.specs.List.{judgeText}
 use Rattle.card.specs.Demand.{Call, refusalOf, after, afterAll, OnThese, Allowed, Answers, EachAnswered, Marked}
-use Rattle.card.specs.Mark.{markRefusal, markAfter}
-use Rattle.card.specs.Refusal.{leastRoom}
+use Rattle.card.specs.Mark.{markRefusal}
 use Rattle.card.proofs.ClusterMarks.{marks-long, whole-long, entries-most, mark-best, mark-question, mark-only}
 use Rattle.card.proofs.MarkLaws.{mark-asked, mark-kept, mark-written}
 

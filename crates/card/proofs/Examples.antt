@@ -1,8 +1,6 @@
 -- Document 01's examples 1 to 12 hold: one statement over the definitions, computed.
 -- Assumes nothing.
-use mathlib.Core.List.{List}
 use mathlib.Core.Path.{_≡_, refl}
-use Prim.Native.Nat.{ℕ}
 use Rattle.bases.specs.Letter.{among?, letterOf, allLetters?}
 use Rattle.bases.specs.Period.{anyPeriod?}
 use Rattle.bases.specs.Same.{agree?}

@@ -5,10 +5,10 @@
 --     lists-first, lists-fault, lists-clear                       the refusal of a call with two
 --     Read, list-read, lists-read           where there is none: the reference is one, the room is enough, and the lists are accepted
 -- Assumes nothing.
-use mathlib.Core.Bool.{Bool, true, false, not}
-use mathlib.Core.List.{List, [], _∷_, _++_}
+use mathlib.Core.Bool.{Bool, true, false}
+use mathlib.Core.List.{List, [], _∷_}
 use mathlib.Core.Logic.{_≢_}
-use mathlib.Core.Path.{_≡_, refl, sym, ap, _∙_}
+use mathlib.Core.Path.{_≡_, _∙_}
 use Prim.Native.Nat.{ℕ}
 use native.Mathlib.Nat.{suc-ne-zero}
 use borrow.Author.Tests.{eq-eqb, ne-eqb, eqb-true, not-false}
@@ -17,7 +17,6 @@ use Rattle.bases.specs.Reference.{isReference?}
 use Rattle.bases.proofs.TestLaws.{of-true}
 use Rattle.vcf.specs.declared.list.Fault.{Fault}
 use Rattle.vcf.specs.List.{judgeText}
-use Rattle.card.specs.declared.refusal.Refusal.{Refusal}
 use Rattle.card.specs.Refusal.{refusal, noRefusal, firstRefusal, listCheck, listChecks, listsChecks}
 use Rattle.card.proofs.RefusalLaws.{Numbered, none-holds, first-keeps, first-goes}
 

@@ -8,25 +8,25 @@
 use mathlib.Core.Bool.{Bool, true, false, not}
 use mathlib.Core.List.{List, [], _∷_}
 use mathlib.Core.Logic.{_↔_, _≢_}
-use mathlib.Core.Path.{_≡_, refl, sym, ap, _∙_}
+use mathlib.Core.Path.{_≡_, refl}
 use Prim.Native.Nat.{ℕ, _≤_, _<_}
 use native.Mathlib.Nat.{suc-ne-zero}
 use borrow.Author.Tests.{eq-eqb, ne-eqb, ltb-true, ltb-false, not-false, lt-ltb}
 use lib.Dec.{eqb, ltb}
 use lib.ListN.{length}
+use Rattle.bases.specs.Pick.{pick}
 use Rattle.bases.specs.Put.{put}
 use Rattle.bases.specs.Reference.{isReference?}
 use Rattle.bases.proofs.TestLaws.{neither}
 use Rattle.clusters.specs.declared.plan.Cluster.{Cluster}
 use Rattle.clusters.specs.Lent.{isPlan?}
-use Rattle.clusters.specs.Marks.{clustersOf, firstEntry, clusterAt, isCluster?, marksOf, markedOf, notFound, pickMarked, askedFor, marksAfter}
+use Rattle.clusters.specs.Marks.{clustersOf, firstEntry, clusterAt, isCluster?, marksOf, markedOf, notFound, askedFor, marksAfter}
 use Rattle.clusters.specs.Plan.{planOf}
 use Rattle.donors.specs.Choice.{Variant}
-use Rattle.donors.specs.Table.{pickList}
 use Rattle.vcf.specs.List.{judgeText}
 use Rattle.card.specs.declared.refusal.Refusal.{Refusal}
 use Rattle.card.specs.Answer.{refusedAnswer, answerOf}
-use Rattle.card.specs.Refusal.{refusal, noRefusal, Check, check, pickRefusal, firstRefusal, leastRoom, listsChecks}
+use Rattle.card.specs.Refusal.{refusal, noRefusal, Check, check, firstRefusal, leastRoom, listsChecks}
 use Rattle.card.specs.Mark.{markValue, smallRoom?, markChecks, markRefusal, marked, answerAsked, markAfter}
 use Rattle.card.proofs.ListsLaws.{check-numbered, accepted-of, lists-numbered}
 use Rattle.card.proofs.RefusalLaws.{Numbered, NoneHolds, First, none-holds, first-keeps, first-goes, refused-iff, answered-iff}
@@ -99,7 +99,7 @@ module _ (reference name first second : List ℕ) (plan : List Cluster) (k : ℕ
 
   pub mark-read : firstRefusal (listsChecks reference name first second (smallRoom? (length plan) (length marks))) .number ≡ 0
       → (marked reference name first second plan k (length marks) ≡ answerAsked (isPlan? (planOf reference first second) plan) (askedFor reference (clustersOf reference first second) k))
-      × (markAfter reference name first second plan k marks ≡ pickList (isPlan? (planOf reference first second) plan) (marksAfter reference (clustersOf reference first second) k marks) marks)
+      × (markAfter reference name first second plan k marks ≡ pick (isPlan? (planOf reference first second) plan) (marksAfter reference (clustersOf reference first second) k marks) marks)
   unfolding firstRefusal
   mark-read z =
       let e : markRefusal reference name first second plan k (length marks) ≡ firstRefusal asks =
@@ -110,11 +110,11 @@ module _ (reference name first second : List ℕ) (plan : List Cluster) (k : ℕ
       c = clusterAt (clustersOf reference first second) k
 
       go : (s t : Bool)
-          → (answerOf (pickRefusal (not s) (refusal 17 0 0) (pickRefusal (not t) (refusal 16 0 0) noRefusal)) (markValue reference c)
-          ≡ answerAsked s (pickMarked t (markedOf reference c) notFound))
-          × (pickList (eqb (pickRefusal (not s) (refusal 17 0 0) (pickRefusal (not t) (refusal 16 0 0) noRefusal) .number) 0)
-          (pickList t (put marks (firstEntry (clustersOf reference first second) k) (marksOf reference c)) marks) marks
-          ≡ pickList s (pickList t (put marks (firstEntry (clustersOf reference first second) k) (marksOf reference c)) marks) marks)
+          → (answerOf (pick (not s) (refusal 17 0 0) (pick (not t) (refusal 16 0 0) noRefusal)) (markValue reference c)
+          ≡ answerAsked s (pick t (markedOf reference c) notFound))
+          × (pick (eqb (pick (not s) (refusal 17 0 0) (pick (not t) (refusal 16 0 0) noRefusal) .number) 0)
+          (pick t (put marks (firstEntry (clustersOf reference first second) k) (marksOf reference c)) marks) marks
+          ≡ pick s (pick t (put marks (firstEntry (clustersOf reference first second) k) (marksOf reference c)) marks) marks)
       go true true = (refl, refl)
       go true false = (refl, refl)
       go false t = (refl, refl)

@@ -12,8 +12,9 @@ use mathlib.Core.Logic.{_↔_, _≢_}
 use mathlib.Core.Path.{_≡_, refl, sym, ap, _∙_}
 use lib.Dec.{T}
 use Rattle.bases.proofs.TestLaws.{of-true, is-true}
+use Rattle.bases.specs.Pick.{pick}
 use Rattle.card.specs.declared.refusal.Refusal.{Refusal}
-use Rattle.card.specs.Refusal.{noRefusal, Check, pickRefusal, firstRefusal}
+use Rattle.card.specs.Refusal.{noRefusal, Check, firstRefusal}
 
 -- No row of these holds.
 abbrev pub NoneHolds : List Check → Type 0
@@ -57,7 +58,7 @@ unfolding firstRefusal
 none-holds [] n e = tt
 none-holds (c ∷ cs) n e = go (c .holds) refl (none-holds cs (n .1)) e
   where
-    go : (t : Bool) → c .holds ≡ t → (firstRefusal cs .number ≡ 0 → NoneHolds cs) → pickRefusal t (c .refused) (firstRefusal cs) .number ≡ 0 → NoneHolds (c ∷ cs)
+    go : (t : Bool) → c .holds ≡ t → (firstRefusal cs .number ≡ 0 → NoneHolds cs) → pick t (c .refused) (firstRefusal cs) .number ≡ 0 → NoneHolds (c ∷ cs)
     go true h f e = absurd (n .0 (of-true h) e)
     go false h f e = (h, f e)
 
@@ -66,8 +67,8 @@ unfolding firstRefusal
 first-keeps [] ds n = absurd (n refl)
 first-keeps (c ∷ cs) ds n = go (c .holds) (first-keeps cs ds) n
   where
-    go : (t : Bool) → (firstRefusal cs .number ≢ 0 → firstRefusal (cs ++ ds) ≡ firstRefusal cs) → pickRefusal t (c .refused) (firstRefusal cs) .number ≢ 0
-        → pickRefusal t (c .refused) (firstRefusal (cs ++ ds)) ≡ pickRefusal t (c .refused) (firstRefusal cs)
+    go : (t : Bool) → (firstRefusal cs .number ≢ 0 → firstRefusal (cs ++ ds) ≡ firstRefusal cs) → pick t (c .refused) (firstRefusal cs) .number ≢ 0
+        → pick t (c .refused) (firstRefusal (cs ++ ds)) ≡ pick t (c .refused) (firstRefusal cs)
     go true f n = refl
     go false f n = f n
 
@@ -79,7 +80,7 @@ unfolding firstRefusal
 first-found [] r n e = absurd (n (sym (ap (λ (x : Refusal). x .number) e)))
 first-found (c ∷ cs) r n e = go (c .holds) refl (first-found cs r n) e
   where
-    go : (t : Bool) → c .holds ≡ t → (firstRefusal cs ≡ r → First r cs) → pickRefusal t (c .refused) (firstRefusal cs) ≡ r → First r (c ∷ cs)
+    go : (t : Bool) → c .holds ≡ t → (firstRefusal cs ≡ r → First r cs) → pick t (c .refused) (firstRefusal cs) ≡ r → First r (c ∷ cs)
     go true h f e =
         record { before = []; found = c; after = cs; split = refl; refused = e; holds = of-true h; none = tt }
     go false h f e =

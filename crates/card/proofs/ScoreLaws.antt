@@ -6,12 +6,13 @@
 use mathlib.Core.Bool.{Bool, true, false}
 use mathlib.Core.List.{List, [], _∷_}
 use mathlib.Core.Path.{_≡_, refl}
-use Prim.Native.Nat.{ℕ, _+_, _≤_}
+use Prim.Native.Nat.{ℕ, _≤_}
 use native.Mathlib.Omega.{arith}
 use borrow.Author.Tests.{leb-true}
 use lib.ListN.{length, length-append}
-use Rattle.bases.specs.Letter.{pick, basesOf}
-use Rattle.clusters.specs.Marks.{decided?, scoreOf, markedOf, notFound, pickMarked, clusterAt, isCluster?, askedFor, totalScore}
+use Rattle.bases.specs.Letter.{basesOf}
+use Rattle.bases.specs.Pick.{pick}
+use Rattle.clusters.specs.Marks.{decided?, scoreOf, markedOf, notFound, clusterAt, isCluster?, askedFor, totalScore}
 use Rattle.donors.specs.Choice.{Choice, plus, minus, out, Variant}
 use Rattle.donors.specs.Table.{most}
 use Rattle.matching.specs.Best.{score}
@@ -37,7 +38,7 @@ module _ (reference : List ℕ) where
   pub asked-score : (cs : List (List Variant)) (k : ℕ) → askedFor reference cs k .score ≤ most
   asked-score cs k = go (isCluster? cs k)
     where
-      go : (t : Bool) → pickMarked t (markedOf reference (clusterAt cs k)) notFound .score ≤ most
+      go : (t : Bool) → pick t (markedOf reference (clusterAt cs k)) notFound .score ≤ most
       go true = cluster-score (clusterAt cs k)
       go false = omega arith
 

@@ -1,30 +1,24 @@
 -- The call `mark_all`: what `plan` and then `mark` of each cluster leave, in one.
 -- Assumes nothing: these are definitions.
-use mathlib.Core.Bool.{Bool, true, false}
 use mathlib.Core.List.{List}
 use Prim.Native.Nat.{ℕ}
 use lib.Dec.{eqb}
 use lib.ListN.{length, replicate}
+use Rattle.bases.specs.Pick.{pick}
 use Rattle.bases.specs.Put.{put}
 use Rattle.clusters.specs.declared.plan.Cluster.{Cluster}
 use Rattle.clusters.specs.Marks.{clustersOf, allMarks, totalScore}
 use Rattle.clusters.specs.Plan.{planOf}
-use Rattle.donors.specs.Table.{pickList}
 use Rattle.card.specs.declared.all.AllMarked.{AllMarked}
 use Rattle.card.specs.declared.answer.Answer.{Answer}
 use Rattle.card.specs.declared.refusal.Refusal.{Refusal}
 use Rattle.card.specs.Answer.{refusedAnswer}
 use Rattle.card.specs.Mark.{smallRoom?}
-use Rattle.card.specs.Plan.{pickPlan}
 use Rattle.card.specs.Refusal.{firstRefusal, leastRoom, listsChecks}
 
 -- An answer's first three numbers, the number of clusters, and the score summed over the decided ones.
 abbrev pub allMarked : Answer → ℕ → ℕ → AllMarked
 allMarked a clusters score = record { number = a .number; list = a .list; line = a .line; clusters = clusters; score = score }
-
-abbrev pub pickAll : Bool → AllMarked → AllMarked → AllMarked
-pickAll true a b = a
-pickAll false a b = b
 
 module _ (reference name first second : List ℕ) (plan marks : ℕ) where
   -- Why nothing is marked, where so many records and marks are lent; three zeros where all is.
@@ -35,7 +29,7 @@ module _ (reference name first second : List ℕ) (plan marks : ℕ) where
   abbrev pub allAnswered : AllMarked
   allAnswered =
       let r = refusedAnswer allRefusal in
-      pickAll (eqb (allRefusal .number) 0)
+      pick (eqb (allRefusal .number) 0)
       (allMarked r (length (planOf reference first second)) (totalScore reference (clustersOf reference first second)))
       (allMarked r 0 0)
 
@@ -46,10 +40,10 @@ emptyPlan = replicate leastRoom (record { first = 0; count = 0 })
 module _ (reference name first second : List ℕ) (plan : List Cluster) (marks : List ℕ) where
   -- The lent records and the lent marks afterwards.
   abbrev pub allPlan : List Cluster
-  allPlan = pickPlan (eqb (allRefusal reference name first second (length plan) (length marks) .number) 0) (put plan 0 (planOf reference first second)) plan
+  allPlan = pick (eqb (allRefusal reference name first second (length plan) (length marks) .number) 0) (put plan 0 (planOf reference first second)) plan
 
   abbrev pub allBytes : List ℕ
   allBytes =
-      pickList (eqb (allRefusal reference name first second (length plan) (length marks) .number) 0)
+      pick (eqb (allRefusal reference name first second (length plan) (length marks) .number) 0)
       (put marks 0 (allMarks reference (clustersOf reference first second)))
       marks

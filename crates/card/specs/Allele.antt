@@ -6,11 +6,12 @@ use mathlib.Core.List.{List, [], _∷_}
 use Prim.Native.Nat.{ℕ, _-_}
 use lib.Dec.{eqb, leb, ltb}
 use lib.ListN.{length, getD}
+use Rattle.bases.specs.Pick.{pick}
 use Rattle.vcf.specs.declared.entry.Entry.{Entry}
 use Rattle.vcf.specs.Entry.{part, bytesOf, entryOf, entriesOf}
 use Rattle.card.specs.declared.allele.Shown.{Shown}
 use Rattle.card.specs.declared.refusal.Refusal.{Refusal}
-use Rattle.card.specs.Refusal.{refusal, noRefusal, Check, check, firstRefusal, referenceCheck, listCheck}
+use Rattle.card.specs.Refusal.{refusal, noRefusal, check, firstRefusal, referenceCheck, listCheck}
 
 -- What stands for an entry where there is none.
 abbrev pub noEntry : Entry
@@ -29,10 +30,6 @@ abbrev pub alleleRefusal : List ℕ → List ℕ → List ℕ → ℕ → ℕ �
 alleleRefusal reference name text i k =
     firstRefusal (referenceCheck reference ∷ listCheck 1 reference name text ∷ check (noAllele? text i k) (refusal 18 0 0) ∷ [])
 
-abbrev pub pickShown : Bool → Shown → Shown → Shown
-pickShown true a b = a
-pickShown false a b = b
-
 -- A part of the reference; a part of the text.
 abbrev pub ofReference : ℕ → ℕ → Shown
 ofReference at len = record { refusal = noRefusal; text = false; part = part at len }
@@ -43,8 +40,8 @@ ofText at len = record { refusal = noRefusal; text = true; part = part at len }
 -- Where allele k of an entry stands.
 abbrev pub shownOf : Entry → ℕ → Shown
 shownOf e k =
-    pickShown (eqb k 0) (ofReference (e .pos .0 - 1) (e .reference .len))
-    (pickShown (eqb k 1) (ofText (e .first .at) (e .first .len)) (ofText (e .second .at) (e .second .len)))
+    pick (eqb k 0) (ofReference (e .pos .0 - 1) (e .reference .len))
+    (pick (eqb k 1) (ofText (e .first .at) (e .first .len)) (ofText (e .second .at) (e .second .len)))
 
 abbrev pub refusedShown : Refusal → Shown
 refusedShown r = record { refusal = r; text = false; part = part 0 0 }
@@ -52,13 +49,9 @@ refusedShown r = record { refusal = r; text = false; part = part 0 0 }
 -- Where what the card shows stands, or why it does not.
 unfoldable pub shown : List ℕ → List ℕ → List ℕ → ℕ → ℕ → Shown
 shown reference name text i k =
-    pickShown (eqb (alleleRefusal reference name text i k .number) 0) (shownOf (entryNumber text i) k)
+    pick (eqb (alleleRefusal reference name text i k .number) 0) (shownOf (entryNumber text i) k)
     (refusedShown (alleleRefusal reference name text i k))
-
-abbrev pub pickList : Bool → List ℕ → List ℕ → List ℕ
-pickList true a b = a
-pickList false a b = b
 
 -- The bytes that are shown.
 abbrev pub bytesShown : List ℕ → List ℕ → Shown → List ℕ
-bytesShown reference text s = pickList (s .text) (bytesOf text (s .part)) (bytesOf reference (s .part))
+bytesShown reference text s = pick (s .text) (bytesOf text (s .part)) (bytesOf reference (s .part))

@@ -1,8 +1,8 @@
 -- The four numbers that a call answers.
 -- Assumes nothing: these are definitions.
-use mathlib.Core.Bool.{Bool, true, false}
 use Prim.Native.Nat.{ℕ}
 use lib.Dec.{eqb}
+use Rattle.bases.specs.Pick.{pick}
 use Rattle.card.specs.declared.answer.Answer.{Answer}
 use Rattle.card.specs.declared.refusal.Refusal.{Refusal}
 
@@ -13,10 +13,6 @@ answer number list line value = record { number = number; list = list; line = li
 abbrev pub refusedAnswer : Refusal → Answer
 refusedAnswer r = answer (r .number) (r .list) (r .line) 0
 
-abbrev pub pickAnswer : Bool → Answer → Answer → Answer
-pickAnswer true a b = a
-pickAnswer false a b = b
-
 -- What a call answers: its refusal, or where there is none number 0 and a value.
 abbrev pub answerOf : Refusal → ℕ → Answer
-answerOf r value = pickAnswer (eqb (r .number) 0) (answer 0 0 0 value) (refusedAnswer r)
+answerOf r value = pick (eqb (r .number) 0) (answer 0 0 0 value) (refusedAnswer r)

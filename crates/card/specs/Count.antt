@@ -1,10 +1,10 @@
 -- The call `count`: the six counts that it answers.
 -- Assumes nothing: these are definitions.
-use mathlib.Core.Bool.{Bool, true, false}
 use mathlib.Core.List.{List}
 use Prim.Native.Nat.{ℕ}
 use lib.Dec.{eqb, ltb}
 use lib.ListN.{length}
+use Rattle.bases.specs.Pick.{pick}
 use Rattle.clusters.specs.declared.count.Count.{Count}
 use Rattle.clusters.specs.declared.count.Counts.{Counts}
 use Rattle.clusters.specs.Counts.{countsOf}
@@ -36,10 +36,6 @@ noCount = record { matched = 0; unmatched = 0; undecided = 0 }
 abbrev pub noCounts : Counts
 noCounts = record { first = noCount; second = noCount }
 
-abbrev pub pickCounts : Bool → Counts → Counts → Counts
-pickCounts true a b = a
-pickCounts false a b = b
-
 module _ (reference name first second marks : List ℕ) where
   -- Why nothing is counted; three zeros where the marks are. Row 2: there are fewer than 1,024.
   abbrev pub countRefusal : Refusal
@@ -47,4 +43,4 @@ module _ (reference name first second marks : List ℕ) where
 
   -- What the marks of each list's entries count, or the refusal and six zeros.
   abbrev pub counted : Counted
-  counted = countedOf (refusedAnswer countRefusal) (pickCounts (eqb (countRefusal .number) 0) (countsOf (mergedItems first second) marks) noCounts)
+  counted = countedOf (refusedAnswer countRefusal) (pick (eqb (countRefusal .number) 0) (countsOf (mergedItems first second) marks) noCounts)

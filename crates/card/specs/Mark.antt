@@ -1,21 +1,20 @@
 -- The call `mark`: what it answers, and the lent marks afterwards.
 -- Assumes nothing: these are definitions.
-use mathlib.Core.Bool.{Bool, true, false, not, _||_}
+use mathlib.Core.Bool.{Bool, not, _||_}
 use mathlib.Core.List.{List, [], _∷_, _++_}
 use Prim.Native.Nat.{ℕ}
 use lib.Dec.{eqb, ltb}
 use lib.ListN.{length}
-use Rattle.bases.specs.Letter.{pick}
+use Rattle.bases.specs.Pick.{pick}
 use Rattle.clusters.specs.declared.mark.Marked.{Marked}
 use Rattle.clusters.specs.declared.plan.Cluster.{Cluster}
 use Rattle.clusters.specs.Lent.{isPlan?}
 use Rattle.clusters.specs.Marks.{decided?, scoreOf, clustersOf, clusterAt, isCluster?, marksAfter}
 use Rattle.clusters.specs.Plan.{planOf}
 use Rattle.donors.specs.Choice.{Variant}
-use Rattle.donors.specs.Table.{pickList}
 use Rattle.card.specs.declared.answer.Answer.{Answer}
 use Rattle.card.specs.declared.refusal.Refusal.{Refusal}
-use Rattle.card.specs.Answer.{answer, pickAnswer, answerOf}
+use Rattle.card.specs.Answer.{answer, answerOf}
 use Rattle.card.specs.Refusal.{refusal, Check, check, firstRefusal, leastRoom, listsChecks}
 
 -- The value that says that the asked cluster is undecided. No score is as large.
@@ -50,11 +49,11 @@ module _ (reference name first second : List ℕ) (plan : List Cluster) (k room 
 -- What is answered where both lists are read: is the plan given theirs, and what was told of the asked cluster.
 abbrev pub answerAsked : Bool → Marked → Answer
 answerAsked same m =
-    pickAnswer same (pickAnswer (m .found) (answer 0 0 0 (pick (m .decided) (m .score) UNDECIDED)) (answer 16 0 0 0)) (answer 17 0 0 0)
+    pick same (pick (m .found) (answer 0 0 0 (pick (m .decided) (m .score) UNDECIDED)) (answer 16 0 0 0)) (answer 17 0 0 0)
 
 -- The lent marks afterwards: those of the cluster's entries are written.
 abbrev pub markAfter : List ℕ → List ℕ → List ℕ → List ℕ → List Cluster → ℕ → List ℕ → List ℕ
 markAfter reference name first second plan k marks =
-    pickList (eqb (markRefusal reference name first second plan k (length marks) .number) 0)
+    pick (eqb (markRefusal reference name first second plan k (length marks) .number) 0)
     (marksAfter reference (clustersOf reference first second) k marks)
     marks

@@ -4,11 +4,11 @@ use mathlib.Core.List.{List}
 use Prim.Native.Nat.{ℕ}
 use lib.Dec.{eqb, ltb}
 use lib.ListN.{length}
+use Rattle.bases.specs.Pick.{pick}
 use Rattle.bases.specs.Put.{put}
 use Rattle.normal.specs.Written.{writtenText}
 use Rattle.card.specs.declared.answer.Answer.{Answer}
 use Rattle.card.specs.declared.refusal.Refusal.{Refusal}
-use Rattle.card.specs.Allele.{pickList}
 use Rattle.card.specs.Answer.{answerOf}
 use Rattle.card.specs.Refusal.{firstRefusal, listChecks}
 
@@ -24,4 +24,4 @@ module _ (reference name text : List ℕ) (room : ℕ) where
 -- The lent room afterwards: the written text stands in it from its first byte on.
 abbrev pub normalAfter : List ℕ → List ℕ → List ℕ → List ℕ → List ℕ
 normalAfter reference name text out =
-    pickList (eqb (normalRefusal reference name text (length out) .number) 0) (put out 0 (writtenText reference text)) out
+    pick (eqb (normalRefusal reference name text (length out) .number) 0) (put out 0 (writtenText reference text)) out

@@ -1,10 +1,10 @@
 -- The call `plan`: what it answers, and the lent records afterwards.
 -- Assumes nothing: these are definitions.
-use mathlib.Core.Bool.{Bool, true, false}
 use mathlib.Core.List.{List}
 use Prim.Native.Nat.{ℕ}
 use lib.Dec.{eqb, ltb}
 use lib.ListN.{length}
+use Rattle.bases.specs.Pick.{pick}
 use Rattle.bases.specs.Put.{put}
 use Rattle.clusters.specs.declared.plan.Cluster.{Cluster}
 use Rattle.clusters.specs.Plan.{planOf}
@@ -22,11 +22,7 @@ module _ (reference name first second : List ℕ) (room : ℕ) where
   abbrev pub planned : Answer
   planned = answerOf planRefusal (length (planOf reference first second))
 
-abbrev pub pickPlan : Bool → List Cluster → List Cluster → List Cluster
-pickPlan true a b = a
-pickPlan false a b = b
-
 -- The lent records afterwards: the plan is written into the first of them, one a cluster.
 abbrev pub planAfter : List ℕ → List ℕ → List ℕ → List ℕ → List Cluster → List Cluster
 planAfter reference name first second plan =
-    pickPlan (eqb (planRefusal reference name first second (length plan) .number) 0) (put plan 0 (planOf reference first second)) plan
+    pick (eqb (planRefusal reference name first second (length plan) .number) 0) (put plan 0 (planOf reference first second)) plan

@@ -1,9 +1,10 @@
 -- What is turned away: the three numbers of a refusal, and the first of a call's refusals in document 01's order: 1; 2; list 1; list 2; 17; 16; 18.
 -- Assumes nothing: these are definitions.
-use mathlib.Core.Bool.{Bool, true, false, not}
+use mathlib.Core.Bool.{Bool, not}
 use mathlib.Core.List.{List, [], _∷_, _++_}
 use Prim.Native.Nat.{ℕ}
 use lib.Dec.{eqb}
+use Rattle.bases.specs.Pick.{pick}
 use Rattle.bases.specs.Reference.{isReference?}
 use Rattle.vcf.specs.List.{judgeText}
 use Rattle.card.specs.declared.refusal.Refusal.{Refusal}
@@ -23,14 +24,10 @@ pub record Check : Type 0 where
 abbrev pub check : Bool → Refusal → Check
 check t r = record { holds = t; refused = r }
 
-abbrev pub pickRefusal : Bool → Refusal → Refusal → Refusal
-pickRefusal true a b = a
-pickRefusal false a b = b
-
 -- The first refusal whose row holds.
 unfoldable pub firstRefusal : List Check → Refusal
 firstRefusal [] = noRefusal
-firstRefusal (c ∷ cs) = pickRefusal (c .holds) (c .refused) (firstRefusal cs)
+firstRefusal (c ∷ cs) = pick (c .holds) (c .refused) (firstRefusal cs)
 
 -- Row 1.
 abbrev pub referenceCheck : List ℕ → Check

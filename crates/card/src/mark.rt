@@ -2,11 +2,11 @@
 ghost use mathlib.Core.Path.{_≡_};
 ghost use Prim.Native.Nat.{_≤_};
 ghost use lib.ListN.{length};
+ghost use Rattle.bases.specs.Pick.{pick};
 ghost use Rattle.bases.specs.Reference.{longestReference};
 ghost use Rattle.clusters.specs.Heads.{Ready, startHeads};
 ghost use Rattle.clusters.specs.Marks.{clustersOf, askedFor, marksAfter};
 ghost use Rattle.clusters.specs.Merged.{mergedItems};
-ghost use Rattle.donors.specs.Table.{pickList};
 ghost use Rattle.card.specs.Mark.{marked, answerAsked, markAfter};
 use crate::answer::Answer;
 use crate::answer::give;
@@ -30,7 +30,7 @@ fn mark_planned(
     marks: &mut [u8],
 ) -> Answer
     requires { ⌜ Ready (now reference) (now first) (now second) (startHeads (now first) (now second)) × (length (now reference) ≤ longestReference) × (length (mergedItems (now first) (now second)) ≤ length (now marks)) ⌝ }
-    ensures { λ r. ⌜ (r ≡ answerAsked same (askedFor (now (reference .entry)) (clustersOf (now (reference .entry)) (now (first .entry)) (now (second .entry))) cluster)) × (now (marks .exit) ≡ pickList same (marksAfter (now (reference .entry)) (clustersOf (now (reference .entry)) (now (first .entry)) (now (second .entry))) cluster (now (marks .entry))) (now (marks .entry))) ⌝ }
+    ensures { λ r. ⌜ (r ≡ answerAsked same (askedFor (now (reference .entry)) (clustersOf (now (reference .entry)) (now (first .entry)) (now (second .entry))) cluster)) × (now (marks .exit) ≡ pick same (marksAfter (now (reference .entry)) (clustersOf (now (reference .entry)) (now (first .entry)) (now (second .entry))) cluster (now (marks .entry))) (now (marks .entry))) ⌝ }
 {
     if !same {
         return refuse(17, 0, 0);

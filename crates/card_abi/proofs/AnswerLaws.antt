@@ -13,10 +13,10 @@ use native.Mathlib.Decide.{ℕ-discrete}
 use borrow.Author.Tests.{eq-eqb, ne-eqb}
 use lib.Dec.{eqb}
 use lib.ListN.{take, drop}
-use Rattle.bases.specs.Letter.{pick}
+use Rattle.bases.specs.Pick.{pick}
 use Rattle.card.specs.declared.allele.Shown.{Shown}
 use Rattle.card.specs.declared.refusal.Refusal.{Refusal}
-use Rattle.card.specs.Allele.{alleleRefusal, shown, pickList, bytesShown}
+use Rattle.card.specs.Allele.{alleleRefusal, shown, bytesShown}
 use Rattle.card.proofs.AlleleLaws.{shown-refusal, shown-empty-iff}
 use Rattle.card.specs.declared.answer.Answer.{Answer}
 use Rattle.card.specs.Answer.{answer, refusedAnswer}
@@ -50,14 +50,14 @@ module _ (reference name text : List ℕ) (i k : ℕ) where
       let e = shown-refusal reference name text i k in
       rw (← e) (answer-refused (shown reference name text i k) (rw e n))
 
-  pub allele-answer-bytes : bytesShown reference text (shown reference name text i k) ≡ take (answered .value) (drop (answered .line) (pickList (eqb (answered .list) 1) text reference))
+  pub allele-answer-bytes : bytesShown reference text (shown reference name text i k) ≡ take (answered .value) (drop (answered .line) (pick (eqb (answered .list) 1) text reference))
   allele-answer-bytes = go (ℕ-discrete (alleleRefusal reference name text i k .number) 0)
     where
-      pick-part : (b : Bool) (at len : ℕ) → pickList b (take len (drop at text)) (take len (drop at reference)) ≡ take len (drop at (pickList (eqb (pick b 1 0) 1) text reference))
+      pick-part : (b : Bool) (at len : ℕ) → pick b (take len (drop at text)) (take len (drop at reference)) ≡ take len (drop at (pick (eqb (pick b 1 0) 1) text reference))
       pick-part true at len = refl
       pick-part false at len = refl
 
-      go : Dec (alleleRefusal reference name text i k .number ≡ 0) → bytesShown reference text (shown reference name text i k) ≡ take (answered .value) (drop (answered .line) (pickList (eqb (answered .list) 1) text reference))
+      go : Dec (alleleRefusal reference name text i k .number ≡ 0) → bytesShown reference text (shown reference name text i k) ≡ take (answered .value) (drop (answered .line) (pick (eqb (answered .list) 1) text reference))
       go (yes e) =
           let s = shown reference name text i k in
           rw (answer-there s (ap (λ (r : Refusal). r .number) (shown-refusal reference name text i k) ∙ e)) (pick-part (s .text) (s .part .at) (s .part .len))

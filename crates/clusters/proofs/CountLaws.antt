@@ -18,7 +18,7 @@ use native.Mathlib.Numerals.{add-one}
 use native.Mathlib.Omega.{arith}
 use lib.ListN.{length, getD, take}
 use lib.Seq.{length-take-le, take-suc}
-use Rattle.donors.specs.Rules.{list1, list2, put}
+use Rattle.donors.specs.Rules.{list1, list2, putIf}
 use Rattle.clusters.specs.declared.item.Item.{Item}
 use Rattle.clusters.specs.Counts.{one, matched?, unmatched?, undecided?, howMany, countAll, addMark, ownMarks, countsOf, addEntry, totals, mostEntries, Few}
 
@@ -44,7 +44,7 @@ module _ (p : ℕ → Bool) where
       howMany-append ms (m ∷ []) ∙ ap (λ (n : ℕ). howMany p ms + n) e
 
   own-more : (side : Bool) (m n : ℕ) (own1 own2 : List ℕ) → howMany p own1 + howMany p own2 ≡ n
-      → howMany p (put (Bool·beq list1 side) m own1) + howMany p (put (Bool·beq list2 side) m own2) ≡ one (p m) + n
+      → howMany p (putIf (Bool·beq list1 side) m own1) + howMany p (putIf (Bool·beq list2 side) m own2) ≡ one (p m) + n
   unfolding howMany
   own-more true m n own1 own2 e = omega arith
   own-more false m n own1 own2 e = omega arith
@@ -63,7 +63,7 @@ count-more ms m = cc (howMany-more matched? ms m, howMany-more unmatched? ms m, 
 pub count-next : (ms : List ℕ) (i : ℕ) → i < length ms → countAll (take (i + 1) ms) ≡ addMark (countAll (take i ms)) (getD ms i 0)
 count-next ms i h = rw (add-one i, take-suc ms i 0 h) (count-more (take i ms) (getD ms i 0))
 
-put-append : (t : Bool) (m : ℕ) (ms ns : List ℕ) → put t m ms ++ ns ≡ put t m (ms ++ ns)
+put-append : (t : Bool) (m : ℕ) (ms ns : List ℕ) → putIf t m ms ++ ns ≡ putIf t m (ms ++ ns)
 put-append true m ms ns = refl
 put-append false m ms ns = refl
 
@@ -74,7 +74,7 @@ own-append side [] js [] ns h = refl
 own-append side [] js (m ∷ ms) ns h = absurd (omega arith)
 own-append side (i ∷ is) js [] ns h = absurd (omega arith)
 own-append side (i ∷ is) js (m ∷ ms) ns h =
-    ap (put (Bool·beq side (i .side)) m) (own-append side is js ms ns (omega arith)) ∙ sym (put-append (Bool·beq side (i .side)) m (ownMarks side is ms) (ownMarks side js ns))
+    ap (putIf (Bool·beq side (i .side)) m) (own-append side is js ms ns (omega arith)) ∙ sym (put-append (Bool·beq side (i .side)) m (ownMarks side is ms) (ownMarks side js ns))
 
 pub own-join : (p : ℕ → Bool) (side : Bool) (is js : List Item) (ms ns : List ℕ) → length is ≡ length ms
     → howMany p (ownMarks side (is ++ js) (ms ++ ns)) ≡ howMany p (ownMarks side is ms) + howMany p (ownMarks side js ns)
@@ -82,22 +82,22 @@ own-join p side is js ms ns h = ap (howMany p) (own-append side is js ms ns h) �
 
 -- Behind the first i entries, one entry more; d stands for none.
 own-next : (side : Bool) (is : List Item) (ms : List ℕ) (i : ℕ) (d : Item) → i < length is → i < length ms
-    → ownMarks side (take (suc i) is) ms ≡ ownMarks side (take i is) ms ++ put (Bool·beq side (getD is i d .side)) (getD ms i 0) []
+    → ownMarks side (take (suc i) is) ms ≡ ownMarks side (take i is) ms ++ putIf (Bool·beq side (getD is i d .side)) (getD ms i 0) []
 unfolding ownMarks
 own-next side [] ms i d h k = absurd (omega arith)
 own-next side (x ∷ is) [] i d h k = absurd (omega arith)
 own-next side (x ∷ is) (m ∷ ms) zero d h k = refl
 own-next side (x ∷ is) (m ∷ ms) (suc i) d h k =
-    ap (put (Bool·beq side (x .side)) m) (own-next side is ms i d (omega arith) (omega arith))
-    ∙ sym (put-append (Bool·beq side (x .side)) m (ownMarks side (take i is) ms) (put (Bool·beq side (getD is i d .side)) (getD ms i 0) []))
+    ap (putIf (Bool·beq side (x .side)) m) (own-next side is ms i d (omega arith) (omega arith))
+    ∙ sym (put-append (Bool·beq side (x .side)) m (ownMarks side (take i is) ms) (putIf (Bool·beq side (getD is i d .side)) (getD ms i 0) []))
 
 pub counts-next : (is : List Item) (ms : List ℕ) (i : ℕ) (d : Item) → i < length is → i < length ms
     → countsOf (take (i + 1) is) ms ≡ addEntry (countsOf (take i is) ms) (getD is i d .side) (getD ms i 0)
 counts-next is ms i d h k = rw (add-one i) (go (getD is i d .side) (own-next list1 is ms i d h k) (own-next list2 is ms i d h k))
   where
     go : (side : Bool)
-        → ownMarks list1 (take (suc i) is) ms ≡ ownMarks list1 (take i is) ms ++ put (Bool·beq list1 side) (getD ms i 0) []
-        → ownMarks list2 (take (suc i) is) ms ≡ ownMarks list2 (take i is) ms ++ put (Bool·beq list2 side) (getD ms i 0) []
+        → ownMarks list1 (take (suc i) is) ms ≡ ownMarks list1 (take i is) ms ++ putIf (Bool·beq list1 side) (getD ms i 0) []
+        → ownMarks list2 (take (suc i) is) ms ≡ ownMarks list2 (take i is) ms ++ putIf (Bool·beq list2 side) (getD ms i 0) []
         → countsOf (take (suc i) is) ms ≡ addEntry (countsOf (take i is) ms) side (getD ms i 0)
     go true e f = rw (e, f, append-nil (ownMarks list2 (take i is) ms), count-more (ownMarks list1 (take i is) ms) (getD ms i 0))
     go false e f = rw (e, f, append-nil (ownMarks list1 (take i is) ms), count-more (ownMarks list2 (take i is) ms) (getD ms i 0))
@@ -109,7 +109,7 @@ own-marks : (side : Bool) (is : List Item) (ms more : List ℕ) → length is �
 unfolding ownMarks
 own-marks side [] ms more h = refl
 own-marks side (i ∷ is) [] more h = absurd (omega arith)
-own-marks side (i ∷ is) (m ∷ ms) more h = ap (put (Bool·beq side (i .side)) m) (own-marks side is ms more (omega arith))
+own-marks side (i ∷ is) (m ∷ ms) more h = ap (putIf (Bool·beq side (i .side)) m) (own-marks side is ms more (omega arith))
 
 pub counts-marks : (is : List Item) (ms more : List ℕ) → length is ≤ length ms → countsOf is (ms ++ more) ≡ countsOf is ms
 counts-marks is ms more h = rw (own-marks list1 is ms more h, own-marks list2 is ms more h)
@@ -120,7 +120,7 @@ own-le side [] ms = omega arith
 own-le side (i ∷ is) [] = omega arith
 own-le side (i ∷ is) (m ∷ ms) = go (Bool·beq side (i .side)) (own-le side is ms)
   where
-    go : (t : Bool) → length (ownMarks side is ms) ≤ length is → length (put t m (ownMarks side is ms)) ≤ suc (length is)
+    go : (t : Bool) → length (ownMarks side is ms) ≤ length is → length (putIf t m (ownMarks side is ms)) ≤ suc (length is)
     go true h = omega arith
     go false h = omega arith
 

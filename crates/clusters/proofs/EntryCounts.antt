@@ -14,10 +14,10 @@ use borrow.Author.Tests.{ne-eqb}
 use lib.Dec.{T}
 use lib.ListN.{length, take, replicate}
 use Rattle.bases.specs.Letter.{basesOf}
+use Rattle.bases.specs.Pick.{pick}
 use Rattle.donors.specs.Apart.{All}
 use Rattle.donors.specs.Choice.{Choice, plus, minus, out, Variant}
-use Rattle.donors.specs.Rules.{list1, list2, put}
-use Rattle.donors.specs.Table.{pickList}
+use Rattle.donors.specs.Rules.{list1, list2, putIf}
 use Rattle.matching.specs.Answer.{byteOf}
 use Rattle.matching.specs.Card.{cardBest}
 use Rattle.matching.specs.Cut.{join}
@@ -52,7 +52,7 @@ unfolding join
 all-marked reference [] = tt
 all-marked reference (c ∷ cs) = marked-append (marksOf reference c) (allMarks reference cs) (go (decided? c)) (all-marked reference cs)
   where
-    go : (t : Bool) → Marked (pickList t (map byteOf (cardBest (basesOf reference) c)) (replicate (length c) QUESTION))
+    go : (t : Bool) → Marked (pick t (map byteOf (cardBest (basesOf reference) c)) (replicate (length c) QUESTION))
     go true = marked-bytes (cardBest (basesOf reference) c)
     go false = marked-question (length c)
 
@@ -83,7 +83,7 @@ module _ (side : Bool) where
   own-kept (i ∷ is) [] h = absurd (omega arith)
   own-kept (i ∷ is) (m ∷ ms) h = go (Bool·beq side (i .side)) (own-kept is ms (omega arith))
     where
-      go : (t : Bool) → length (ownMarks side is ms) ≡ length (own is) → length (put t m (ownMarks side is ms)) ≡ length (put t i (own is))
+      go : (t : Bool) → length (ownMarks side is ms) ≡ length (own is) → length (putIf t m (ownMarks side is ms)) ≡ length (putIf t i (own is))
       go true e = ap suc e
       go false e = e
 
@@ -93,7 +93,7 @@ module _ (side : Bool) where
   own-marked (i ∷ is) [] u = tt
   own-marked (i ∷ is) (m ∷ ms) u = go (Bool·beq side (i .side)) (own-marked is ms (u .1))
     where
-      go : (t : Bool) → Marked (ownMarks side is ms) → Marked (put t m (ownMarks side is ms))
+      go : (t : Bool) → Marked (ownMarks side is ms) → Marked (putIf t m (ownMarks side is ms))
       go true v = (u .0, v)
       go false v = v
 

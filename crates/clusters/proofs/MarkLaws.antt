@@ -14,12 +14,13 @@ use native.Mathlib.Omega.{arith}
 use borrow.Author.Tests.{le-leb, lt-leb}
 use lib.ListN.{length, take, replicate, length-replicate}
 use lib.Seq.{length-take-le, take-at}
-use Rattle.bases.specs.Letter.{pick, basesOf}
+use Rattle.bases.specs.Letter.{basesOf}
+use Rattle.bases.specs.Pick.{pick}
 use Rattle.bases.specs.Put.{put}
 use Rattle.donors.specs.Agree as agree
 use Rattle.donors.specs.Choice.{Choice, plus, minus, out, Variant, cardRules}
 use Rattle.donors.specs.Table as table
-use Rattle.donors.specs.Table.{most, pickList}
+use Rattle.donors.specs.Table.{most}
 use Rattle.matching.specs.declared.answer.Best.{Best}
 use Rattle.matching.specs.Answer.{byteOf, arrayOf}
 use Rattle.matching.specs.Best.{score}
@@ -57,7 +58,7 @@ module _ (reference : List ℕ) (c : List Variant) where
   pub marks-length : length (marksOf reference c) ≡ length c
   marks-length = go (decided? c)
     where
-      go : (t : Bool) → length (pickList t (map byteOf (cardBest (basesOf reference) c)) (replicate (length c) QUESTION)) ≡ length c
+      go : (t : Bool) → length (pick t (map byteOf (cardBest (basesOf reference) c)) (replicate (length c) QUESTION)) ≡ length c
       go true = map-length byteOf (cardBest (basesOf reference) c) ∙ best-long (basesOf reference) c
       go false = length-replicate (length c) QUESTION
 

@@ -16,8 +16,9 @@ use native.Mathlib.Omega.{arith}
 use lib.Dec.{eqb}
 use lib.ListN.{length, getD, drop, length-append, length-take, length-drop}
 use lib.Seq.{getD-append-add}
+use Rattle.bases.specs.Pick.{pick}
 use Rattle.bases.specs.declared.place.Place.{Place}
-use Rattle.bases.specs.Letter.{pick, basesOf}
+use Rattle.bases.specs.Letter.{basesOf}
 use Rattle.bases.specs.Place.{placeOf}
 use Rattle.bases.specs.Put.{put}
 use Rattle.bases.proofs.LetterLaws.{bases-length}
@@ -26,7 +27,7 @@ use Rattle.donors.specs.declared.table.Row.{Row}
 use Rattle.donors.specs.Apart.{All}
 use Rattle.donors.specs.Build.{Sound}
 use Rattle.donors.specs.Choice.{Variant}
-use Rattle.donors.specs.Table.{width, numberAt, rowAt, pickList, alleleBytes, variantOf, variantsFrom}
+use Rattle.donors.specs.Table.{width, numberAt, rowAt, alleleBytes, variantOf, variantsFrom}
 use Rattle.vcf.specs.declared.entry.Entry.{Entry}
 use Rattle.vcf.specs.declared.entry.Part.{Part}
 use Rattle.vcf.specs.Entry.{bytesOf}
@@ -60,7 +61,7 @@ stand-bases reference text e zero = refl
 stand-bases reference text e (suc zero) = refl
 stand-bases reference text e (suc (suc k)) = refl
 
-text-is : (b : Bool) (first second : List ℕ) → pickList b first second ≡ textOf b first second
+text-is : (b : Bool) (first second : List ℕ) → pick b first second ≡ textOf b first second
 text-is true first second = refl
 text-is false first second = refl
 
@@ -70,19 +71,19 @@ part-within t p e h = omega (arith, bases-length (bytesOf t p), length-take (p .
 
 stand-within : (reference text : List ℕ) (e : Entry) (k : ℕ) → startOf e + e .reference .len ≤ length reference
     → length (alleleOf reference text e k) ≡ lenOf e k → 1 ≤ lenOf e k
-    → standOf e k .at + standOf e k .len ≤ length (pickList (standOf e k .text) text reference)
+    → standOf e k .at + standOf e k .len ≤ length (pick (standOf e k .text) text reference)
 stand-within reference text e zero w l s = w
 stand-within reference text e (suc zero) w l s = part-within text (e .first) l s
 stand-within reference text e (suc (suc k)) w l s = part-within text (e .second) l s
 
 module _ (reference first second : List ℕ) (i : Item) where
-  pub row-variant : variantOf reference (pickList (rowOf i .first) first second) (rowOf i) ≡ variant reference first second i
+  pub row-variant : variantOf reference (pick (rowOf i .first) first second) (rowOf i) ≡ variant reference first second i
   row-variant =
       let t = textOf (i .side) first second in
       let e = i .entry in
       rw (text-is (i .side) first second, stand-bases reference t e (e .copy0), stand-bases reference t e (e .copy1))
 
-  pub row-sound : SoundItem reference first second i → Sound reference (pickList (rowOf i .first) first second) (rowOf i)
+  pub row-sound : SoundItem reference first second i → Sound reference (pick (rowOf i .first) first second) (rowOf i)
   row-sound s =
       let t = textOf (i .side) first second in
       let e = i .entry in
@@ -126,7 +127,7 @@ module _ (r : Row) (t : List ℕ) where
 module _ (reference first second : List ℕ) where
   -- the entry of a row
   entryBy : Row → Variant
-  entryBy r = variantOf reference (pickList (r .first) first second) r
+  entryBy r = variantOf reference (pick (r .first) first second) r
 
   variants-behind : (r : Row) (t : List ℕ) (k n : ℕ) → variantsFrom reference first second (numbersOf r ++ t) (k + 1) n ≡ variantsFrom reference first second t k n
   unfolding variantsFrom entryBy

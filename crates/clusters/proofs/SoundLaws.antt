@@ -16,9 +16,10 @@ use borrow.Author.Tests.{ltb-false, not-false}
 use lib.Dec.{T, eqb, leb, leb→le}
 use lib.ListN.{length, take, drop, getD, length-drop}
 use lib.Seq.{length-take-le}
-use Rattle.bases.specs.Letter.{pick, allLetters?, basesOf}
+use Rattle.bases.specs.Letter.{allLetters?, basesOf}
 use Rattle.bases.proofs.LetterLaws.{bases-length}
 use Rattle.bases.proofs.TestLaws.{of-true, both, neither}
+use Rattle.bases.specs.Pick.{pick}
 use Rattle.donors.specs.Apart.{All}
 use Rattle.vcf.specs.declared.entry.Entry.{Entry}
 use Rattle.vcf.specs.Allele.{longestAllele, isAllele?, firstAlt, twoAlts?, secondAlt, altCount}

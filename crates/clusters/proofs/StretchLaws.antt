@@ -9,6 +9,7 @@ use mathlib.Core.List.{List, [], _∷_, map}
 use Prim.Native.Nat.{ℕ, _+_, _*_, _≤_}
 use native.Mathlib.Omega.{arith}
 use lib.ListN.{length}
+use Rattle.bases.specs.Pick.{pick}
 use Rattle.bases.specs.Put.{put}
 use Rattle.bases.proofs.PutLaws.{put-length}
 use Rattle.donors.specs.declared.table.Row.{Row}
@@ -18,7 +19,7 @@ use Rattle.donors.specs.Build.{Sound}
 use Rattle.donors.specs.Choice.{Variant, cardRules}
 use Rattle.donors.specs.Items.{only, over}
 use Rattle.donors.specs.Rules.{list1, list2}
-use Rattle.donors.specs.Table.{most, width, pickList}
+use Rattle.donors.specs.Table.{most, width}
 use Rattle.vcf.specs.Allele.{longestAllele}
 use Rattle.clusters.specs.declared.item.Item.{Item}
 use Rattle.clusters.specs.declared.row.Stretch.{Stretch}
@@ -74,7 +75,7 @@ module _ (reference first second : List ℕ) where
       record {
         rows = omega (arith, put-length t 0 (omega arith) (tableOf is) (omega (arith, table-length is)));
         few = few;
-        sound = λ k h. table-row (λ (r : Row). Sound reference (pickList (r .first) first second) r) t is k h (all-each (row-sound reference first second) is a);
+        sound = λ k h. table-row (λ (r : Row). Sound reference (pick (r .first) first second) r) t is k h (all-each (row-sound reference first second) is a);
         order = stretch-some (stretchOf reference is) is some (c .2);
         inside = inside;
         starts = rw e (all-map (λ (x : Variant). stretchOf reference is .from ≤ x .start) (variant reference first second) is (all-each (λ i z. z .0) is (c .2)));

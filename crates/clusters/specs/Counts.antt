@@ -5,9 +5,9 @@ use mathlib.Core.Bool.{Bool, true, false, Bool·beq, _||_}
 use mathlib.Core.List.{List, [], _∷_}
 use Prim.Native.Nat.{ℕ, _+_, _≤_}
 use lib.Dec.{eqb}
-use Rattle.bases.specs.Letter.{pick}
+use Rattle.bases.specs.Pick.{pick}
 use Rattle.donors.specs.Choice.{plus, minus, out}
-use Rattle.donors.specs.Rules.{list1, list2, put}
+use Rattle.donors.specs.Rules.{list1, list2, putIf}
 use Rattle.matching.specs.Answer.{byteOf}
 use Rattle.vcf.specs.Record.{mostRecords}
 use Rattle.clusters.specs.declared.count.Count.{Count}
@@ -58,7 +58,7 @@ addMark c m = record {
 unfoldable pub ownMarks : Bool → List Item → List ℕ → List ℕ
 ownMarks side [] ms = []
 ownMarks side (i ∷ is) [] = []
-ownMarks side (i ∷ is) (m ∷ ms) = put (Bool·beq side (i .side)) m (ownMarks side is ms)
+ownMarks side (i ∷ is) (m ∷ ms) = putIf (Bool·beq side (i .side)) m (ownMarks side is ms)
 
 -- The six counts: those of list 1 and those of list 2.
 abbrev pub countsOf : List Item → List ℕ → Counts

@@ -5,10 +5,11 @@ use mathlib.Core.List.{List, [], _∷_, map}
 use Prim.Native.Nat.{ℕ, _+_}
 use lib.Dec.{leb, ltb}
 use lib.ListN.{length, getD, take, replicate}
-use Rattle.bases.specs.Letter.{pick, basesOf}
+use Rattle.bases.specs.Letter.{basesOf}
+use Rattle.bases.specs.Pick.{pick}
 use Rattle.bases.specs.Put.{put}
 use Rattle.donors.specs.Choice.{Variant}
-use Rattle.donors.specs.Table.{most, pickList}
+use Rattle.donors.specs.Table.{most}
 use Rattle.matching.specs.Answer.{byteOf}
 use Rattle.matching.specs.Best.{score}
 use Rattle.matching.specs.Card.{cardScoring, cardBest}
@@ -29,7 +30,7 @@ decided? c = leb (length c) most
 
 -- The marks of a cluster's entries: the choices of its best pair, or `?` for each.
 abbrev pub marksOf : List ℕ → List Variant → List ℕ
-marksOf reference c = pickList (decided? c) (map byteOf (cardBest (basesOf reference) c)) (replicate (length c) QUESTION)
+marksOf reference c = pick (decided? c) (map byteOf (cardBest (basesOf reference) c)) (replicate (length c) QUESTION)
 
 -- The score of a cluster: that of its best pair; none where it is undecided.
 abbrev pub scoreOf : List ℕ → List Variant → ℕ
@@ -41,10 +42,6 @@ markedOf reference c = record { found = true; decided = decided? c; score = scor
 
 abbrev pub notFound : Marked
 notFound = record { found = false; decided = false; score = 0 }
-
-abbrev pub pickMarked : Bool → Marked → Marked → Marked
-pickMarked true a b = a
-pickMarked false a b = b
 
 -- The clusters of two lists.
 abbrev pub clustersOf : List ℕ → List ℕ → List ℕ → List (List Variant)
@@ -67,11 +64,11 @@ isCluster? cs k = ltb k (length cs)
 
 -- What is told where cluster k is asked for,
 abbrev pub askedFor : List ℕ → List (List Variant) → ℕ → Marked
-askedFor reference cs k = pickMarked (isCluster? cs k) (markedOf reference (clusterAt cs k)) notFound
+askedFor reference cs k = pick (isCluster? cs k) (markedOf reference (clusterAt cs k)) notFound
 
 -- and the marks then: only those of its entries are written, and none where there is no such cluster.
 abbrev pub marksAfter : List ℕ → List (List Variant) → ℕ → List ℕ → List ℕ
-marksAfter reference cs k marks = pickList (isCluster? cs k) (put marks (firstEntry cs k) (marksOf reference (clusterAt cs k))) marks
+marksAfter reference cs k marks = pick (isCluster? cs k) (put marks (firstEntry cs k) (marksOf reference (clusterAt cs k))) marks
 
 -- The marks of all entries, cluster by cluster.
 abbrev pub allMarks : List ℕ → List (List Variant) → List ℕ

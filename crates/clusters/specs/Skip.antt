@@ -1,15 +1,11 @@
 -- A walk from cluster to cluster.
 -- Assumes nothing: these are definitions.
-use mathlib.Core.Bool.{Bool, true, false}
 use mathlib.Core.List.{List}
 use Prim.Native.Nat.{ℕ, zero, suc, _+_}
+use Rattle.bases.specs.Pick.{pick}
 use Rattle.clusters.specs.declared.cluster.Skipped.{Skipped}
 use Rattle.clusters.specs.declared.heads.Heads.{Heads}
 use Rattle.clusters.specs.Heads.{done?, firstCount, foundAt}
-
-abbrev pub pickSkipped : Bool → Skipped → Skipped → Skipped
-pickSkipped true a b = a
-pickSkipped false a b = b
 
 -- Where the cursors are, and how many entries are before them.
 abbrev pub skipped : Heads → ℕ → Skipped
@@ -21,4 +17,4 @@ module _ (reference first second : List ℕ) where
   skipClusters zero h i = skipped h i
   skipClusters (suc k) h i =
       let behind = skipClusters k (foundAt reference first second h .heads) (i + firstCount reference first second h) in
-      pickSkipped (done? first second h) (skipped h i) behind
+      pick (done? first second h) (skipped h i) behind

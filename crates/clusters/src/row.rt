@@ -2,7 +2,7 @@
 ghost use mathlib.Core.Path.{_≡_};
 ghost use Prim.Native.Nat.{_+_, _*_, _≤_, _<_, _^_, max, min};
 ghost use lib.ListN.{length, take};
-ghost use Rattle.bases.specs.Letter.{pick};
+ghost use Rattle.bases.specs.Pick.{pick};
 ghost use Rattle.bases.specs.Put.{put};
 ghost use Rattle.donors.specs.Table.{width};
 ghost use Rattle.clusters.specs.Heads.{Ready, itemsFrom};

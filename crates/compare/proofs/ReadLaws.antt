@@ -9,8 +9,8 @@ use Prim.Native.Nat.{ℕ, zero, suc, _≤_}
 use native.Mathlib.Omega.{arith}
 use lib.Dec.{eqb, leb, leb→le}
 use lib.ListN.{length, getD}
-use Rattle.bases.specs.Letter.{pick}
 use Rattle.bases.proofs.TestLaws.{both, of-true}
+use Rattle.bases.specs.Pick.{pick}
 use Rattle.clusters.specs.declared.heads.Heads.{Heads}
 use Rattle.clusters.specs.declared.item.Item.{Item}
 use Rattle.clusters.specs.Heads.{Readable, entriesAt, itemsFrom, done?, nextItem, moved, passed}

@@ -10,6 +10,7 @@ use Prim.Native.Nat.{ℕ, _+_, _-_, _≤_}
 use native.Mathlib.Omega.{arith}
 use lib.ListN.{drop}
 use Rattle.bases.specs.Letter.{basesOf}
+use Rattle.bases.specs.Pick.{pick}
 use Rattle.bases.specs.Same.{same?}
 use Rattle.bases.proofs.LetterLaws.{bases-length}
 use Rattle.donors.specs.Agree.{Ready, ApartOn, donorBy, oneDonor?}
@@ -19,7 +20,7 @@ use Rattle.donors.specs.Choice.{Copy, cardRules}
 use Rattle.donors.specs.Donor.{part}
 use Rattle.donors.specs.Items.{over}
 use Rattle.donors.specs.Rules.{list1, list2, edits}
-use Rattle.donors.specs.Table.{rowAt, pickList, variantsFrom, choicesFrom}
+use Rattle.donors.specs.Table.{rowAt, variantsFrom, choicesFrom}
 use Rattle.donors.proofs.ApartLaws.{chain-split}
 use Rattle.donors.proofs.DonorLaws.{EndsBy, StartsFrom, donor-start, donor-stop, donor-length}
 use Rattle.donors.proofs.EditLaws.{edits-ends, edits-starts, adds-over}
@@ -29,29 +30,29 @@ use Rattle.donors.proofs.StretchLaws.{editsIn, donorIn, Buildable, edit
 module _ (reference first second t φ : List ℕ) (h : Copy) (n a b space1 space2 : ℕ)
     (r : Ready reference first second t n a b space1 space2) (p : ApartOn reference first second t φ h n) where
   -- a list's edits, with its own text
-  own : (j : Bool) → edits cardRules j h (variantsFrom reference first second t 0 n) (choicesFrom φ 0 n) ≡ editsIn reference (pickList j first second) t φ j h 0 n
+  own : (j : Bool) → edits cardRules j h (variantsFrom reference first second t 0 n) (choicesFrom φ 0 n) ≡ editsIn reference (pick j first second) t φ j h 0 n
   own j = edits-own reference first second t j h (choicesFrom φ 0 n) 0 n
 
-  starts : (j : Bool) → StartsFrom a (editsIn reference (pickList j first second) t φ j h 0 n)
+  starts : (j : Bool) → StartsFrom a (editsIn reference (pick j first second) t φ j h 0 n)
   starts j = rw (own j) at (edits-starts cardRules j h a (variantsFrom reference first second t 0 n) (choicesFrom φ 0 n) (r .starts))
 
-  ends : (j : Bool) → EndsBy b (editsIn reference (pickList j first second) t φ j h 0 n)
+  ends : (j : Bool) → EndsBy b (editsIn reference (pick j first second) t φ j h 0 n)
   ends j = rw (own j) at (edits-ends cardRules j h b (variantsFrom reference first second t 0 n) (choicesFrom φ 0 n) (r .ends))
 
-  chain : (j : Bool) → Chain a (editsIn reference (pickList j first second) t φ j h 0 n)
+  chain : (j : Bool) → Chain a (editsIn reference (pick j first second) t φ j h 0 n)
   chain j =
-      chain-split a a a [] (editsIn reference (pickList j first second) t φ j h 0 n) (omega arith) (omega arith) tt (starts j) .1
+      chain-split a a a [] (editsIn reference (pick j first second) t φ j h 0 n) (omega arith) (omega arith) tt (starts j) .1
       (tt, rw (own j) at (p j))
 
   pub ready-builds : (j : Bool) (space : ℕ) → (b - a) + over cardRules (cardRules .grow) j (variantsFrom reference first second t 0 n) ≤ space
-      → Buildable reference (pickList j first second) t φ j h n a b space
+      → Buildable reference (pick j first second) t φ j h n a b space
   ready-builds j space m =
-      let l = donor-length (basesOf reference) a b (editsIn reference (pickList j first second) t φ j h 0 n) (r .order) (rw (bases-length reference) (r .inside)) (chain j) (ends j) in
+      let l = donor-length (basesOf reference) a b (editsIn reference (pick j first second) t φ j h 0 n) (r .order) (rw (bases-length reference) (r .inside)) (chain j) (ends j) in
       let g = rw (own j) at (adds-over cardRules j h (variantsFrom reference first second t 0 n) (choicesFrom φ 0 n)) in
       record {
         rows = r .rows;
         few = r .few;
-        sound = λ i k e. subst (λ (s : Bool). Sound reference (pickList s first second) (rowAt t i)) e (r .sound i k);
+        sound = λ i k e. subst (λ (s : Bool). Sound reference (pick s first second) (rowAt t i)) e (r .sound i k);
         order = r .order;
         inside = r .inside;
         chain = chain j;
@@ -60,9 +61,9 @@ module _ (reference first second t φ : List ℕ) (h : Copy) (n a b space1 space
       }
 
   donor-over : (j : Bool) → donorBy reference first second t φ j h n
-      ≡ part (basesOf reference) 0 a ++ (donorIn reference (pickList j first second) t φ j h n a b ++ drop b (basesOf reference))
+      ≡ part (basesOf reference) 0 a ++ (donorIn reference (pick j first second) t φ j h n a b ++ drop b (basesOf reference))
   donor-over j =
-      let es = editsIn reference (pickList j first second) t φ j h 0 n in
+      let es = editsIn reference (pick j first second) t φ j h 0 n in
       rw (own j) (donor-start (basesOf reference) 0 a es (omega arith) (starts j)
       ∙ ap (λ (l : List ℕ). part (basesOf reference) 0 a ++ l) (donor-stop (basesOf reference) a b es (r .order) (ends j)))
 

@@ -16,7 +16,8 @@ use native.Mathlib.Omega.{arith}
 use lib.Dec.{T}
 use lib.ListN.{length, drop, length-append, length-drop}
 use lib.Seq.{length-take-le}
-use Rattle.bases.specs.Letter.{pick, letterOf, basesOf}
+use Rattle.bases.specs.Letter.{letterOf, basesOf}
+use Rattle.bases.specs.Pick.{pick}
 use Rattle.bases.specs.Put.{put}
 use Rattle.bases.proofs.LetterLaws.{bases-part}
 use Rattle.bases.proofs.PutLaws.{put-none, put-put}
@@ -27,7 +28,7 @@ use Rattle.donors.specs.Build.{Sound, rowTakes?, rowBytes, builtAfter, o
 use Rattle.donors.specs.Choice.{Choice, plus, minus, out, chosen?, Copy, copy0, copy1, Variant, cardRules, puts}
 use Rattle.donors.specs.Donor.{part}
 use Rattle.donors.specs.Rules.{takes?}
-use Rattle.donors.specs.Table.{pickList, alleleBytes, variantOf, alleleOf}
+use Rattle.donors.specs.Table.{alleleBytes, variantOf, alleleOf}
 use Rattle.donors.proofs.TableLaws.{allele-puts}
 
 pub and-false : (t : Bool) → t && false ≡ false
@@ -36,7 +37,7 @@ and-false false = refl
 
 -- The bases that an entry adds, where the donor stands at place `at` of the reference.
 abbrev pub added : List ℕ → Bool → Copy → ℕ → Variant → Choice → List ℕ
-added R j h at x c = pickList (takes? cardRules j h x c) (part R at (x .start) ++ puts x c h) []
+added R j h at x c = pick (takes? cardRules j h x c) (part R at (x .start) ++ puts x c h) []
 
 -- Where in the reference the donor then stands.
 abbrev pub nextAt : Bool → Copy → ℕ → Variant → Choice → ℕ
@@ -47,8 +48,8 @@ module _ (reference text : List ℕ) (r : Row) (c : Choice) (j : Bool) (h : Copy
   row-bases at = go (rowTakes? reference text r c j h) (λ t. allele-puts reference text r c h (both (Bool·beq j (r .first)) (chosen? c) .0 t .1))
     where
       go : (t : Bool) → (T t → basesOf (alleleBytes reference text (alleleOf r c h)) ≡ puts (variantOf reference text r) c h)
-          → basesOf (pickList t (part reference at (r .start) ++ alleleBytes reference text (alleleOf r c h)) [])
-          ≡ pickList t (part (basesOf reference) at (r .start) ++ puts (variantOf reference text r) c h) []
+          → basesOf (pick t (part reference at (r .start) ++ alleleBytes reference text (alleleOf r c h)) [])
+          ≡ pick t (part (basesOf reference) at (r .start) ++ puts (variantOf reference text r) c h) []
       go true f = map-append letterOf (part reference at (r .start)) (alleleBytes reference text (alleleOf r c h)) ∙ rw (bases-part reference at (r .start - at), f tt)
       go false f = refl
 
@@ -61,10 +62,10 @@ module _ (reference text : List ℕ) (r : Row) (c : Choice) (j : Bool) (h : Copy
     taken-chosen : T (chosen? c)
     taken-chosen = both (Bool·beq j (r .first)) (chosen? c) .0 t .1
 
-    pub allele-fits : alleleOf r c h .at + alleleOf r c h .len ≤ length (pickList (alleleOf r c h .text) text reference)
+    pub allele-fits : alleleOf r c h .at + alleleOf r c h .len ≤ length (pick (alleleOf r c h .text) text reference)
     allele-fits = go c h taken-chosen
       where
-        go : (c : Choice) (h : Copy) → T (chosen? c) → alleleOf r c h .at + alleleOf r c h .len ≤ length (pickList (alleleOf r c h .text) text reference)
+        go : (c : Choice) (h : Copy) → T (chosen? c) → alleleOf r c h .at + alleleOf r c h .len ≤ length (pick (alleleOf r c h .text) text reference)
         go plus copy0 t = s .zero
         go plus copy1 t = s .one
         go minus copy0 t = s .one
@@ -75,7 +76,7 @@ module _ (reference text : List ℕ) (r : Row) (c : Choice) (j : Bool) (h : Copy
     allele-length =
         let a = alleleOf r c h in
         let l = allele-fits in
-        length-take-le (a .len) (drop (a .at) (pickList (a .text) text reference)) (omega (arith, length-drop (a .at) (pickList (a .text) text reference)))
+        length-take-le (a .len) (drop (a .at) (pick (a .text) text reference)) (omega (arith, length-drop (a .at) (pick (a .text) text reference)))
 
     pub row-length : (at : ℕ) → length (rowBytes reference text r c j h at) ≡ length (part reference at (r .start)) + alleleOf r c h .len
     row-length at = rw (is-true (rowTakes? reference text r c j h) t, length-append, allele-length)

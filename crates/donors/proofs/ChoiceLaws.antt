@@ -12,7 +12,7 @@ use Rattle.donors.specs.Apart.{All, Pairwise, Disjoint, NoOverlap, Chain
 use Rattle.donors.specs.Choice.{Choice, plus, minus, out, Copy, copy0, copy1, Variant, puts, cardRules, chosenOf, SpansApart}
 use Rattle.donors.specs.Donor.{Edit}
 use Rattle.donors.specs.Items.{Sorted, Solid}
-use Rattle.donors.specs.Rules.{put, editOf, takes?, edits}
+use Rattle.donors.specs.Rules.{putIf, editOf, takes?, edits}
 use Rattle.donors.proofs.EditLaws.{apart-words}
 
 pub plus-as-written : (x : Variant) → (puts x plus copy0 ≡ x .allele0) × (puts x plus copy1 ≡ x .allele1)
@@ -25,12 +25,12 @@ pub out-takes-none : (x : Variant) (h : Copy) → cardRules .room x out h ≡ fa
 out-takes-none x h = refl
 
 put-iff : (P : Edit → Type 0) (Q : Variant → Type 0) (t : Bool) (e : Edit) (es : List Edit) (x : Variant) (xs : List Variant)
-    → (P e ↔ Q x) → (All P es ↔ All Q xs) → All P (put t e es) ↔ All Q (put t x xs)
+    → (P e ↔ Q x) → (All P es ↔ All Q xs) → All P (putIf t e es) ↔ All Q (putIf t x xs)
 put-iff P Q true e es x xs f g = (λ a. (f .0 (a .0), g .0 (a .1)), λ a. (f .1 (a .0), g .1 (a .1)))
 put-iff P Q false e es x xs f g = g
 
 put-pairwise : (t : Bool) (e : Edit) (es : List Edit) (x : Variant) (xs : List Variant)
-    → (All (Disjoint e) es ↔ All (SpansApart x) xs) → (NoOverlap es ↔ Pairwise SpansApart xs) → NoOverlap (put t e es) ↔ Pairwise SpansApart (put t x xs)
+    → (All (Disjoint e) es ↔ All (SpansApart x) xs) → (NoOverlap es ↔ Pairwise SpansApart xs) → NoOverlap (putIf t e es) ↔ Pairwise SpansApart (putIf t x xs)
 put-pairwise true e es x xs f g = (λ a. (f .0 (a .0), g .0 (a .1)), λ a. (f .1 (a .0), g .1 (a .1)))
 put-pairwise false e es x xs f g = g
 

@@ -19,23 +19,23 @@ use lib.ListN.{length}
 use Rattle.donors.specs.Apart.{All, Chain, NoOverlap}
 use Rattle.donors.specs.Donor.{Edit, donorTo}
 use Rattle.donors.specs.Items.{only, Ends, Starts, Sorted, Solid, over, reach}
-use Rattle.donors.specs.Rules.{Rules, list1, list2, put, editOf, takes?, edits, Allowed}
+use Rattle.donors.specs.Rules.{Rules, list1, list2, putIf, editOf, takes?, edits, Allowed}
 use Rattle.donors.proofs.ApartLaws.{Ordered, chain-pairwise}
 use Rattle.donors.proofs.DonorLaws.{EndsBy, StartsFrom, cuts, adds, donor-length}
 
-put-append : (t : Bool) (e : Edit) (es fs : List Edit) → put t e (es ++ fs) ≡ put t e es ++ fs
+put-append : (t : Bool) (e : Edit) (es fs : List Edit) → putIf t e (es ++ fs) ≡ putIf t e es ++ fs
 put-append true e es fs = refl
 put-append false e es fs = refl
 
-put-all : (P : Edit → Type 0) (t : Bool) (e : Edit) (es : List Edit) → P e → All P es → All P (put t e es)
+put-all : (P : Edit → Type 0) (t : Bool) (e : Edit) (es : List Edit) → P e → All P es → All P (putIf t e es)
 put-all P true e es a b = (a, b)
 put-all P false e es a b = b
 
-put-chain : (t : Bool) (e : Edit) (es fs : List Edit) → ((a : ℕ) → Chain a es → Chain a fs) → (a : ℕ) → Chain a (put t e es) → Chain a (put t e fs)
+put-chain : (t : Bool) (e : Edit) (es fs : List Edit) → ((a : ℕ) → Chain a es → Chain a fs) → (a : ℕ) → Chain a (putIf t e es) → Chain a (putIf t e fs)
 put-chain true e es fs f a c = (c .0, f _ (c .1))
 put-chain false e es fs f a c = f a c
 
-put-ordered : (t : Bool) (e : Edit) (es : List Edit) → 1 ≤ e .len → StartsFrom (e .start) es → Ordered es → Ordered (put t e es)
+put-ordered : (t : Bool) (e : Edit) (es : List Edit) → 1 ≤ e .len → StartsFrom (e .start) es → Ordered es → Ordered (putIf t e es)
 put-ordered true e es h s o = (h, s, o)
 put-ordered false e es h s o = o
 
@@ -47,7 +47,7 @@ module _ {X C H : Type 0} (𝓡 : Rules X C H) where
   edits-append j h [] ys (c ∷ φ) ψ l = absurd (omega arith)
   edits-append j h (x ∷ xs) ys [] ψ l = absurd (omega arith)
   edits-append j h (x ∷ xs) ys (c ∷ φ) ψ l =
-      ap (put (takes? 𝓡 j h x c) (editOf 𝓡 x c h)) (edits-append j h xs ys φ ψ (suc-inj l))
+      ap (putIf (takes? 𝓡 j h x c) (editOf 𝓡 x c h)) (edits-append j h xs ys φ ψ (suc-inj l))
       ∙ put-append (takes? 𝓡 j h x c) (editOf 𝓡 x c h) (edits 𝓡 j h xs φ) (edits 𝓡 j h ys ψ)
 
   pub allowed-append : (xs ys : List X) (φ ψ : List C) → length φ ≡ length xs → Allowed 𝓡 (xs ++ ys) (φ ++ ψ) ↔ (Allowed 𝓡 xs φ × Allowed 𝓡 ys ψ)
@@ -101,14 +101,14 @@ module _ {X C H : Type 0} (𝓡 : Rules X C H) where
 
   -- what an item's edit takes away and adds is within the item's bounds
   put-cuts : (t r : Bool) (x : X) (c : C) (h : H) (es : List Edit) (n : ℕ) → (T r → T (𝓡 .room x c h)) → cuts es ≤ n
-      → cuts (put (t && r) (editOf 𝓡 x c h) es) ≤ only t (𝓡 .shrink x) + n
+      → cuts (putIf (t && r) (editOf 𝓡 x c h) es) ≤ only t (𝓡 .shrink x) + n
   unfolding cuts
   put-cuts true true x c h es n f k = omega (arith, 𝓡 .low x c h (f tt))
   put-cuts true false x c h es n f k = omega arith
   put-cuts false r x c h es n f k = omega arith
 
   put-adds : (t r : Bool) (x : X) (c : C) (h : H) (es : List Edit) (n : ℕ) → (T r → T (𝓡 .room x c h)) → adds es ≤ n
-      → adds (put (t && r) (editOf 𝓡 x c h) es) ≤ only t (𝓡 .grow x) + n
+      → adds (putIf (t && r) (editOf 𝓡 x c h) es) ≤ only t (𝓡 .grow x) + n
   unfolding adds
   put-adds true true x c h es n f k = omega (arith, 𝓡 .high x c h (f tt))
   put-adds true false x c h es n f k = omega arith

@@ -15,7 +15,8 @@ use native.Mathlib.Omega.{arith}
 use lib.Dec.{T}
 use lib.ListN.{length, take, drop, length-append, length-drop}
 use lib.Seq.{take-nil, take-add, drop-drop, take-at, drop-at}
-use Rattle.bases.specs.Letter.{pick, letterOf, basesOf}
+use Rattle.bases.specs.Letter.{letterOf, basesOf}
+use Rattle.bases.specs.Pick.{pick}
 use Rattle.bases.specs.Put.{put}
 use Rattle.bases.proofs.LetterLaws.{bases-length, bases-take, bases-part}
 use Rattle.bases.proofs.PutLaws.{take-put, put-length}
@@ -25,8 +26,8 @@ use Rattle.donors.specs.Apart.{Chain}
 use Rattle.donors.specs.Build.{Sound, rowTakes?, rowBytes, builtAfter, outAfter, Fits}
 use Rattle.donors.specs.Choice.{Choice, Copy, Variant, cardRules, puts}
 use Rattle.donors.specs.Donor.{part, Edit, donorTo}
-use Rattle.donors.specs.Rules.{put as put-if, editOf, takes?, edits}
-use Rattle.donors.specs.Table.{pickList, variantOf}
+use Rattle.donors.specs.Rules.{putIf, editOf, takes?, edits}
+use Rattle.donors.specs.Table.{variantOf}
 use Rattle.donors.proofs.BuildLaws.{added, nextAt, row-bases}
 use Rattle.donors.proofs.DonorLaws.{EndsBy}
 
@@ -37,7 +38,7 @@ module _ (j : Bool) (h : Copy) (x : Variant) (c : Choice) (xs : List Variant) (�
   donor-row R at to = go (takes? cardRules j h x c) (edits cardRules j h xs φ)
     where
       go : (t : Bool) (es : List Edit)
-          → donorTo R at to (put-if t (editOf cardRules x c h) es) ≡ pickList t (part R at (x .start) ++ puts x c h) [] ++ donorTo R (pick t (x .start + x .len) at) to es
+          → donorTo R at to (putIf t (editOf cardRules x c h) es) ≡ pick t (part R at (x .start) ++ puts x c h) [] ++ donorTo R (pick t (x .start + x .len) at) to es
       go true es = sym (append-assoc (part R at (x .start)) (puts x c h) (donorTo R (x .start + x .len) to es))
       go false es = refl
 
@@ -46,7 +47,7 @@ module _ (j : Bool) (h : Copy) (x : Variant) (c : Choice) (xs : List Variant) (�
   unfolding edits
   chain-row at k = go (takes? cardRules j h x c) (edits cardRules j h xs φ) k
     where
-      go : (t : Bool) (es : List Edit) → Chain at (put-if t (editOf cardRules x c h) es) → (T t → at ≤ x .start) × Chain (pick t (x .start + x .len) at) es
+      go : (t : Bool) (es : List Edit) → Chain at (putIf t (editOf cardRules x c h) es) → (T t → at ≤ x .start) × Chain (pick t (x .start + x .len) at) es
       go true es k = (λ u. k .0, k .1)
       go false es k = (λ u. absurd u, k)
 
@@ -55,7 +56,7 @@ module _ (j : Bool) (h : Copy) (x : Variant) (c : Choice) (xs : List Variant) (�
   unfolding edits
   ends-row at to l k = go (takes? cardRules j h x c) (edits cardRules j h xs φ) k
     where
-      go : (t : Bool) (es : List Edit) → EndsBy to (put-if t (editOf cardRules x c h) es) → (pick t (x .start + x .len) at ≤ to) × EndsBy to es
+      go : (t : Bool) (es : List Edit) → EndsBy to (putIf t (editOf cardRules x c h) es) → (pick t (x .start + x .len) at ≤ to) × EndsBy to es
       go true es k = k
       go false es k = (l, k)
 

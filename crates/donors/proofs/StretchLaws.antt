@@ -11,12 +11,13 @@ use Prim.Native.Nat.{ℕ, zero, suc, _+_, _-_, _*_, _≤_, _<_}
 use native.Mathlib.Omega.{arith}
 use lib.ListN.{length, getD}
 use Rattle.bases.specs.Letter.{basesOf}
+use Rattle.bases.specs.Pick.{pick}
 use Rattle.donors.specs.Apart.{Chain}
 use Rattle.donors.specs.Build.{Sound}
 use Rattle.donors.specs.Choice.{Choice, chosen?, Copy, cardRules}
 use Rattle.donors.specs.Donor.{Edit, donorTo}
-use Rattle.donors.specs.Rules.{put, editOf, edits}
-use Rattle.donors.specs.Table.{most, width, rowAt, pickList, variantOf, variantsFrom, variantsIn, choiceOf, choicesFrom}
+use Rattle.donors.specs.Rules.{putIf, editOf, edits}
+use Rattle.donors.specs.Table.{most, width, rowAt, variantOf, variantsFrom, variantsIn, choiceOf, choicesFrom}
 use Rattle.donors.proofs.DonorLaws.{EndsBy}
 
 -- The edits that n rows from row i on make on copy h as entries of list j, whose text this is.
@@ -57,19 +58,19 @@ unfolding edits variantsIn
 edits-past reference text t φ j h i n l = let e : n - i ≡ 0 = omega arith in rw e
 
 pub edits-own : (reference first second t : List ℕ) (j : Bool) (h : Copy) (φ : List Choice) (i n : ℕ)
-    → edits cardRules j h (variantsFrom reference first second t i n) φ ≡ edits cardRules j h (variantsIn reference (pickList j first second) t i n) φ
+    → edits cardRules j h (variantsFrom reference first second t i n) φ ≡ edits cardRules j h (variantsIn reference (pick j first second) t i n) φ
 unfolding edits variantsFrom variantsIn
 edits-own reference first second t j h φ i zero = refl
 edits-own reference first second t j h [] i (suc n) = refl
 edits-own reference first second t j h (c ∷ φ) i (suc n) = rw (edits-own reference first second t j h φ (i + 1) n) (go j (rowAt t i .first))
   where
     es : List Edit
-    es = edits cardRules j h (variantsIn reference (pickList j first second) t (i + 1) n) φ
+    es = edits cardRules j h (variantsIn reference (pick j first second) t (i + 1) n) φ
 
     entry : Bool → Edit
-    entry b = editOf cardRules (variantOf reference (pickList b first second) (rowAt t i)) c h
+    entry b = editOf cardRules (variantOf reference (pick b first second) (rowAt t i)) c h
 
-    go : (j b : Bool) → put (Bool·beq j b && chosen? c) (entry b) es ≡ put (Bool·beq j b && chosen? c) (entry j) es
+    go : (j b : Bool) → putIf (Bool·beq j b && chosen? c) (entry b) es ≡ putIf (Bool·beq j b && chosen? c) (entry j) es
     go true true = refl
     go true false = refl
     go false true = refl

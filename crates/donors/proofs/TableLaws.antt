@@ -15,9 +15,10 @@ use native.Mathlib.Omega.{arith}
 use borrow.Author.Tests.{eq-eqb, ne-eqb}
 use lib.Dec.{T, eqb}
 use Rattle.bases.specs.Letter.{basesOf}
+use Rattle.bases.specs.Pick.{pick}
 use Rattle.donors.specs.declared.table.Row.{Row}
 use Rattle.donors.specs.Choice.{Choice, plus, minus, out, chosen?, Copy, copy0, copy1, puts}
-use Rattle.donors.specs.Table.{width, numberAt, alleleFrom, rowAt, alleleBytes, variantOf, pickChoice, choiceOf, copyOf, alleleOf, placeOf}
+use Rattle.donors.specs.Table.{width, numberAt, alleleFrom, rowAt, alleleBytes, variantOf, choiceOf, copyOf, alleleOf, placeOf}
 
 pub choice-plus : (b : ℕ) → b ≡ 43 → choiceOf b ≡ plus
 choice-plus b e = rw (eq-eqb _ _ e)
@@ -25,7 +26,7 @@ choice-plus b e = rw (eq-eqb _ _ e)
 pub choice-other : (b : ℕ) → (b ≡ 43 → ⊥) → chosen? (choiceOf b) ≡ eqb b 45
 choice-other b n = rw (ne-eqb _ _ n) (go (eqb b 45))
   where
-    go : (t : Bool) → chosen? (pickChoice t minus out) ≡ t
+    go : (t : Bool) → chosen? (pick t minus out) ≡ t
     go true = refl
     go false = refl
 

@@ -5,20 +5,21 @@ use mathlib.Core.List.{List}
 use Prim.Native.Nat.{ℕ, _+_, _-_, _*_, _≤_, _<_}
 use lib.ListN.{length}
 use Rattle.bases.specs.Letter.{basesOf}
+use Rattle.bases.specs.Pick.{pick}
 use Rattle.bases.specs.Same.{same?}
 use Rattle.donors.specs.Apart.{Chain}
 use Rattle.donors.specs.Build.{Sound}
 use Rattle.donors.specs.Choice.{Copy, cardRules}
 use Rattle.donors.specs.Items.{Starts, Ends, over}
 use Rattle.donors.specs.Rules.{list1, list2, edits, donorOf}
-use Rattle.donors.specs.Table.{most, width, rowAt, pickList, variantsFrom, choicesFrom}
+use Rattle.donors.specs.Table.{most, width, rowAt, variantsFrom, choicesFrom}
 
 -- The table has n entries, each sound, all of them between a and b on the reference, and two buffers have room for what the lists can make of that stretch.
 -- This does not depend on the choices.
 pub record Ready (reference first second t : List ℕ) (n a b space1 space2 : ℕ) : Type 0 where
   pub rows : n * width ≤ length t
   pub few : n ≤ most
-  pub sound : (i : ℕ) → i < n → Sound reference (pickList (rowAt t i .first) first second) (rowAt t i)
+  pub sound : (i : ℕ) → i < n → Sound reference (pick (rowAt t i .first) first second) (rowAt t i)
   pub order : a ≤ b
   pub inside : b ≤ length reference
   pub starts : Starts cardRules a (variantsFrom reference first second t 0 n)

@@ -6,20 +6,20 @@ use mathlib.Core.List.{List, [], _++_}
 use Prim.Native.Nat.{ℕ, _+_, _≤_}
 use lib.Dec.{T}
 use lib.ListN.{length}
-use Rattle.bases.specs.Letter.{pick}
+use Rattle.bases.specs.Pick.{pick}
 use Rattle.bases.specs.Put.{put}
 use Rattle.donors.specs.declared.build.Built.{Built}
 use Rattle.donors.specs.declared.table.Row.{Row}
 use Rattle.donors.specs.Choice.{Choice, Copy, cardRules}
 use Rattle.donors.specs.Donor.{part}
 use Rattle.donors.specs.Rules.{takes?}
-use Rattle.donors.specs.Table.{pickList, alleleBytes, variantOf, alleleOf}
+use Rattle.donors.specs.Table.{alleleBytes, variantOf, alleleOf}
 
 -- A row's span lies on the reference, and its alleles in its list's text or on the reference.
 pub record Sound (reference text : List ℕ) (r : Row) : Type 0 where
   pub span : r .start + r .len ≤ length reference
-  pub zero : r .copy0 .at + r .copy0 .len ≤ length (pickList (r .copy0 .text) text reference)
-  pub one : r .copy1 .at + r .copy1 .len ≤ length (pickList (r .copy1 .text) text reference)
+  pub zero : r .copy0 .at + r .copy0 .len ≤ length (pick (r .copy0 .text) text reference)
+  pub one : r .copy1 .at + r .copy1 .len ≤ length (pick (r .copy1 .text) text reference)
 
 -- of a row with a choice, for the donor of list j, whose text this is, on copy h
 module _ (reference text : List ℕ) (r : Row) (c : Choice) (j : Bool) (h : Copy) where
@@ -29,7 +29,7 @@ module _ (reference text : List ℕ) (r : Row) (c : Choice) (j : Bool) (h : Copy
 
   -- The bytes that it adds, where the donor stands at place `at` of the reference.
   abbrev pub rowBytes : ℕ → List ℕ
-  rowBytes at = pickList rowTakes? (part reference at (r .start) ++ alleleBytes reference text (alleleOf r c h)) []
+  rowBytes at = pick rowTakes? (part reference at (r .start) ++ alleleBytes reference text (alleleOf r c h)) []
 
   -- How far the donor is then built.
   abbrev pub builtAfter : Built → Built

@@ -7,7 +7,7 @@ use Prim.Native.Nat.{ℕ, _+_, _-_, _≤_, max, min}
 use native.Mathlib.Omega.{arith}
 use lib.Dec.{T}
 use lib.ListN.{length}
-use Rattle.donors.specs.Rules.{Rules, put}
+use Rattle.donors.specs.Rules.{Rules, putIf}
 
 -- `+`, `-` and `0`.
 pub data Choice : Type 0 where
@@ -89,7 +89,7 @@ cardRules = record {
 unfoldable pub chosenOf : Bool → List Variant → List Choice → List Variant
 chosenOf j [] φ = []
 chosenOf j (x ∷ xs) [] = []
-chosenOf j (x ∷ xs) (c ∷ φ) = put (Bool·beq j (x .side) && chosen? c) x (chosenOf j xs φ)
+chosenOf j (x ∷ xs) (c ∷ φ) = putIf (Bool·beq j (x .side) && chosen? c) x (chosenOf j xs φ)
 
 -- The REF spans of two entries do not overlap.
 abbrev pub SpansApart : Variant → Variant → Type 0

@@ -32,9 +32,9 @@ pub record Rules (X C H : Type 0) : Type 0 where
   pub high : (x : X) (c : C) (h : H) → T (room x c h) → length (allele x c h) ≤ len x + grow x
 
 -- One more in front where the test holds.
-abbrev pub put {ℓ} : {A : Type ℓ} → Bool → A → List A → List A
-put true x xs = x ∷ xs
-put false x xs = xs
+abbrev pub putIf {ℓ} : {A : Type ℓ} → Bool → A → List A → List A
+putIf true x xs = x ∷ xs
+putIf false x xs = xs
 
 module _ {X C H : Type 0} (𝓡 : Rules X C H) where
   -- What an item does to a copy that it takes its span on.
@@ -49,7 +49,7 @@ module _ {X C H : Type 0} (𝓡 : Rules X C H) where
   unfoldable pub edits : Bool → H → List X → List C → List Edit
   edits j h [] φ = []
   edits j h (x ∷ xs) [] = []
-  edits j h (x ∷ xs) (c ∷ φ) = put (takes? j h x c) (editOf x c h) (edits j h xs φ)
+  edits j h (x ∷ xs) (c ∷ φ) = putIf (takes? j h x c) (editOf x c h) (edits j h xs φ)
 
   -- The donor of list j on copy h.
   abbrev pub donorOf : List ℕ → Bool → H → List X → List C → List ℕ

@@ -1,12 +1,12 @@
 -- A table of entries, as numbers: nine a row. A row says the entry's list (1 or 2), where REF starts, how long REF is, and for copies 0 and 1 where the bytes of
 -- the allele stand: in the text of its list or in the reference, from where on, and how many.
 -- Assumes nothing: these are definitions.
-use mathlib.Core.Bool.{Bool, true, false}
 use mathlib.Core.List.{List, [], _∷_}
 use Prim.Native.Nat.{ℕ, zero, suc, _+_, _*_}
 use lib.Dec.{eqb}
 use lib.ListN.{getD, take, drop}
 use Rattle.bases.specs.Letter.{basesOf}
+use Rattle.bases.specs.Pick.{pick}
 use Rattle.donors.specs.declared.table.Allele.{Allele}
 use Rattle.donors.specs.declared.table.Row.{Row}
 use Rattle.donors.specs.Choice.{Choice, plus, minus, out, Copy, copy0, copy1, Variant}
@@ -37,13 +37,9 @@ rowAt t i = record {
   copy1 = record { text = eqb (numberAt t i 6) 1; at = numberAt t i 7; len = numberAt t i 8 };
 }
 
-abbrev pub pickList : Bool → List ℕ → List ℕ → List ℕ
-pickList true a b = a
-pickList false a b = b
-
 -- The bytes of an allele.
 abbrev pub alleleBytes : List ℕ → List ℕ → Allele → List ℕ
-alleleBytes reference text a = take (a .len) (drop (a .at) (pickList (a .text) text reference))
+alleleBytes reference text a = take (a .len) (drop (a .at) (pick (a .text) text reference))
 
 -- The entry of a row, as matching reads it, with the text of its list.
 abbrev pub variantOf : List ℕ → List ℕ → Row → Variant
@@ -59,33 +55,25 @@ variantOf reference text r = record {
 unfoldable pub variantsFrom : List ℕ → List ℕ → List ℕ → List ℕ → ℕ → ℕ → List Variant
 variantsFrom reference first second t i zero = []
 variantsFrom reference first second t i (suc n) =
-    variantOf reference (pickList (rowAt t i .first) first second) (rowAt t i) ∷ variantsFrom reference first second t (i + 1) n
+    variantOf reference (pick (rowAt t i .first) first second) (rowAt t i) ∷ variantsFrom reference first second t (i + 1) n
 
 -- The same, all with one text.
 unfoldable pub variantsIn : List ℕ → List ℕ → List ℕ → ℕ → ℕ → List Variant
 variantsIn reference text t i zero = []
 variantsIn reference text t i (suc n) = variantOf reference text (rowAt t i) ∷ variantsIn reference text t (i + 1) n
 
-abbrev pub pickChoice : Bool → Choice → Choice → Choice
-pickChoice true a b = a
-pickChoice false a b = b
-
 -- The choice that a byte writes: `+`, `-`, and any other byte leaves out.
 abbrev pub choiceOf : ℕ → Choice
-choiceOf b = pickChoice (eqb b 43) plus (pickChoice (eqb b 45) minus out)
+choiceOf b = pick (eqb b 43) plus (pick (eqb b 45) minus out)
 
 -- The n choices from place i on.
 unfoldable pub choicesFrom : List ℕ → ℕ → ℕ → List Choice
 choicesFrom φ i zero = []
 choicesFrom φ i (suc n) = choiceOf (getD φ i 0) ∷ choicesFrom φ (i + 1) n
 
-abbrev pub pickCopy : Bool → Copy → Copy → Copy
-pickCopy true a b = a
-pickCopy false a b = b
-
 -- The copy of a number: 0, and any other number is copy 1.
 abbrev pub copyOf : ℕ → Copy
-copyOf n = pickCopy (eqb n 0) copy0 copy1
+copyOf n = pick (eqb n 0) copy0 copy1
 
 -- The allele that a chosen entry puts on a copy.
 abbrev pub alleleOf : Row → Choice → Copy → Allele

@@ -3,10 +3,11 @@ ghost use mathlib.Core.Bool.{true};
 ghost use mathlib.Core.Path.{_≡_};
 ghost use Prim.Native.Nat.{_+_, _*_, _≤_};
 ghost use lib.ListN.{length};
+ghost use Rattle.bases.specs.Pick.{pick};
 ghost use Rattle.bases.specs.Put.{put};
 ghost use Rattle.donors.specs.Build.{Fits, builtAfter, outAfter};
 ghost use Rattle.donors.specs.Choice.{chosen?};
-ghost use Rattle.donors.specs.Table.{width, rowAt, alleleBytes, pickList, choiceOf, copyOf};
+ghost use Rattle.donors.specs.Table.{width, rowAt, alleleBytes, choiceOf, copyOf};
 use crate::table::Allele;
 use crate::table::WIDTH;
 use crate::table::allele_of;
@@ -15,7 +16,7 @@ use bases::put::put_bytes;
 
 // Writes an allele's bytes into `out` from `at` on, and says where they end. Nothing else of `out` changes.
 fn put_allele(reference: &[u8], text: &[u8], allele: Allele, out: &mut [u8], at: usize) -> usize
-    requires { ⌜ (allele .at + allele .len ≤ length (pickList (allele .text) (now text) (now reference))) × (at + allele .len ≤ length (now out)) ⌝ }
+    requires { ⌜ (allele .at + allele .len ≤ length (pick (allele .text) (now text) (now reference))) × (at + allele .len ≤ length (now out)) ⌝ }
     ensures { λ r. ⌜ (r ≡ at + allele .len) × (now (out .exit) ≡ put (now (out .entry)) at (alleleBytes (now (reference .entry)) (now (text .entry)) allele)) ⌝ }
 {
     let from = allele.at;

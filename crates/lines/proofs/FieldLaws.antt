@@ -12,7 +12,8 @@ use native.Mathlib.Omega.{arith}
 use borrow.Author.Tests.{lt-ltb, le-ltb, ltb-true, ltb-false}
 use lib.Dec.{ltb}
 use lib.ListN.{length, length-append}
-use Rattle.normal.specs.Written.{pickBytes, digitsOf, decimal}
+use Rattle.bases.specs.Pick.{pick}
+use Rattle.normal.specs.Written.{digitsOf, decimal}
 use Rattle.vcf.specs.Bytes.{LF, TAB}
 use Rattle.vcf.specs.Pos.{largestPos}
 use Rattle.lines.specs.Lines.{mostDigits, number, field, fieldMost, fields, fieldsMost, refusedWord, refusedText, refusedMost}
@@ -58,7 +59,7 @@ unfolding digitsOf
 digits-few zero n = omega arith
 digits-few (suc k) n = go (ltb n 10) (digits-few k (n / 10))
   where
-    go : (t : Bool) → length (digitsOf k (n / 10)) ≤ k → length (pickBytes t ((48 + n) ∷ []) (digitsOf k (n / 10) ++ ((48 + n % 10) ∷ []))) ≤ suc k
+    go : (t : Bool) → length (digitsOf k (n / 10)) ≤ k → length (pick t ((48 + n) ∷ []) (digitsOf k (n / 10) ++ ((48 + n % 10) ∷ []))) ≤ suc k
     go true h = omega arith
     go false h = omega (arith, length-append (digitsOf k (n / 10)) ((48 + n % 10) ∷ []))
 

@@ -16,11 +16,12 @@ use borrow.Author.Tests.{eqb-true, eqb-false, ltb-false}
 use lib.Dec.{eqb, ltb}
 use lib.ListN.{length, take, length-take}
 use Rattle.bases.proofs.TestLaws.{neither}
+use Rattle.bases.specs.Pick.{pick}
 use Rattle.vcf.specs.Record.{mostRecords}
 use Rattle.lot.specs.declared.answer.Lot.{Lot}
 use Rattle.lot.specs.declared.run.Run.{Run}
 use Rattle.lot.specs.declared.share.Share.{Share}
-use Rattle.lot.specs.Lot.{rowOf, refusedLot, givenLot, pickLot, answerOf, lotOf, lotOfFirst}
+use Rattle.lot.specs.Lot.{rowOf, refusedLot, givenLot, answerOf, lotOf, lotOfFirst}
 use Rattle.lot.specs.Run.{mostRuns, truthOf, calledOf, large?, anyLarge?, totalOf}
 use Rattle.lot.specs.Share.{million, NONE, shareOf}
 use Rattle.lot.specs.Sum.{Bounded}
@@ -55,7 +56,7 @@ share-few top bottom p h = record { part = p; few = h; ppm = ⊎-elim (λ z. inl
 answer-few : (row : ℕ) (t : Run) → (row ≡ 0 → Bounded mostRuns t) → FewLot (answerOf row t)
 answer-few row t h = go (eqb row 0) refl
   where
-    go : (b : Bool) → eqb row 0 ≡ b → FewLot (pickLot b (givenLot t) (refusedLot row))
+    go : (b : Bool) → eqb row 0 ≡ b → FewLot (pick b (givenLot t) (refusedLot row))
     go true e =
         let b = h (eqb-true row 0 e) in
         record {

@@ -10,9 +10,9 @@ use Prim.Native.Nat.{ℕ, _-_}
 use native.Mathlib.Omega.{arith}
 use borrow.Author.Tests.{eqb-true, ne-eqb}
 use lib.Dec.{eqb, ltb}
-use Rattle.bases.specs.Letter.{pick}
+use Rattle.bases.specs.Pick.{pick}
 use Rattle.lot.specs.declared.run.Run.{Run}
-use Rattle.lot.specs.Lot.{rowOf, refusedLot, givenLot, pickLot, answerOf}
+use Rattle.lot.specs.Lot.{rowOf, refusedLot, givenLot, answerOf}
 use Rattle.lot.specs.Run.{mostRuns}
 
 or-true : (t : Bool) → t || true ≡ true
@@ -25,7 +25,7 @@ row-many n large e = ap (λ (t : Bool). pick t 30 (pick large 31 0)) (ap (λ (t 
 pub row-none : (n : ℕ) (large : Bool) → rowOf n large ≡ 0 → (eqb n 0 || ltb mostRuns n ≡ false) × (large ≡ false)
 row-none n large e = go (eqb n 0 || ltb mostRuns n) large e
   where
-    go : (t u : Bool) → pick t 30 (pick u 31 0) ≡ 0 → (t ≡ false) × (u ≡ false)
+    go : (t u : Bool) → pick {A = ℕ} t 30 (pick u 31 0) ≡ 0 → (t ≡ false) × (u ≡ false)
     go true u z = absurd (omega arith)
     go false true z = absurd (omega arith)
     go false false z = (refl, refl)
@@ -33,12 +33,12 @@ row-none n large e = go (eqb n 0 || ltb mostRuns n) large e
 pub answer-same : (number : ℕ) (s t : Run) → (number ≡ 0 → s ≡ t) → answerOf number s ≡ answerOf number t
 answer-same number s t h = go (eqb number 0) refl
   where
-    go : (b : Bool) → eqb number 0 ≡ b → pickLot b (givenLot s) (refusedLot number) ≡ pickLot b (givenLot t) (refusedLot number)
+    go : (b : Bool) → eqb number 0 ≡ b → pick b (givenLot s) (refusedLot number) ≡ pick b (givenLot t) (refusedLot number)
     go true e = ap givenLot (h (eqb-true number 0 e))
     go false e = refl
 
 pub answer-refused : (row : ℕ) (t : Run) → row ≢ 0 → answerOf row t ≡ refusedLot row
-answer-refused row t h = ap (λ (b : Bool). pickLot b (givenLot t) (refusedLot row)) (ne-eqb row 0 h)
+answer-refused row t h = ap (λ (b : Bool). pick b (givenLot t) (refusedLot row)) (ne-eqb row 0 h)
 
 pub answer-given : (row : ℕ) (t : Run) → row ≡ 0 → answerOf row t ≡ givenLot t
 answer-given row t e = ap (λ (k : ℕ). answerOf k t) e

@@ -16,11 +16,11 @@ use native.Mathlib.Omega.{arith}
 use borrow.Author.Tests.{eqb-true, eq-eqb, ltb-true, lt-ltb}
 use lib.Dec.{eqb, ltb}
 use lib.ListN.{length, getD}
-use Rattle.bases.specs.Letter.{pick}
+use Rattle.bases.specs.Pick.{pick}
 use Rattle.vcf.specs.Record.{mostRecords}
 use Rattle.lot.specs.declared.answer.Lot.{Lot}
 use Rattle.lot.specs.declared.run.Run.{Run}
-use Rattle.lot.specs.Lot.{refusedLot, givenLot, pickLot, answerOf, lotRow, lotOf}
+use Rattle.lot.specs.Lot.{refusedLot, givenLot, answerOf, lotRow, lotOf}
 use Rattle.lot.proofs.LotLaws.{row-none, answer-refused, answer-given}
 use Rattle.lot.specs.Run.{mostRuns, truthOf, calledOf, large?, anyLarge?, noRun, totalOf}
 
@@ -59,7 +59,7 @@ any-large-iff (r ∷ rs) =
 pub number-of : (row : ℕ) (t : Run) → answerOf row t .number ≡ row
 number-of row t = go (eqb row 0) refl
   where
-    go : (b : Bool) → eqb row 0 ≡ b → pickLot b (givenLot t) (refusedLot row) .number ≡ row
+    go : (b : Bool) → eqb row 0 ≡ b → pick b (givenLot t) (refusedLot row) .number ≡ row
     go true e = sym (eqb-true row 0 e)
     go false e = refl
 
@@ -74,7 +74,7 @@ row-here t u number (inl h) = rw (h .1) (sym (h .0), λ z. absurd (omega (arith,
 row-here true u number (inr h) = absurd (h .1 .0 refl)
 row-here false u number (inr h) = rw (h .1 .1) (sym (h .0), λ z. absurd (omega (arith, h .0)))
 
-row-is-none : (t u : Bool) → (t ≡ true → ⊥) → (u ≡ true → ⊥) → pick t 30 (pick u 31 0) ≡ 0
+row-is-none : (t u : Bool) → (t ≡ true → ⊥) → (u ≡ true → ⊥) → pick {A = ℕ} t 30 (pick u 31 0) ≡ 0
 row-is-none true u h k = absurd (h refl)
 row-is-none false true h k = absurd (k refl)
 row-is-none false false h k = refl

@@ -21,13 +21,13 @@ use lib.Dec.{ltb}
 use lib.ListN.{length, getD, take}
 use lib.Seq.{take-length}
 use Rattle.bases.proofs.TestLaws.{neither}
-use Rattle.bases.specs.Letter.{pick}
+use Rattle.bases.specs.Pick.{pick}
 use Rattle.lot.specs.declared.answer.Lot.{Lot}
 use Rattle.lot.specs.declared.run.Run.{Run}
 use Rattle.lot.specs.declared.sum.Sum.{Sum}
 use Rattle.lot.specs.Lot.{rowOf, answerOf, lotOf, lotOfFirst}
 use Rattle.lot.specs.Run.{mostRuns, large?, anyLarge?, noRun, bothRuns, totalOf}
-use Rattle.lot.specs.Sum.{runsRead, noSum, pickSum, addRun, Bounded, HasRoom}
+use Rattle.lot.specs.Sum.{runsRead, noSum, addRun, Bounded, HasRoom}
 use Rattle.lot.proofs.LotLaws.{row-many, row-none, answer-same}
 use Rattle.lot.proofs.RunLaws.{small-truth, small-called, any-large-more, total-more}
 
@@ -38,7 +38,7 @@ sumAt rs (suc k) = addRun (sumAt rs k) (getD rs k noRun)
 add-bounded : (k : ℕ) (s : Sum) (r : Run) → Bounded k (s .total) → Bounded (suc k) (addRun s r .total)
 add-bounded k s r b = go (large? r) refl
   where
-    go : (t : Bool) → large? r ≡ t → Bounded (suc k) (pickSum t (record { total = s .total; large = true }) (record { total = bothRuns (s .total) r; large = s .large }) .total)
+    go : (t : Bool) → large? r ≡ t → Bounded (suc k) (pick {A = Sum} t (record { total = s .total; large = true }) (record { total = bothRuns (s .total) r; large = s .large }) .total)
     go true e = record { truth = omega (arith, b .truth); called = omega (arith, b .called) }
     go false e = record { truth = omega (arith, b .truth, small-truth r e); called = omega (arith, b .called, small-called r e) }
 
@@ -76,15 +76,15 @@ room-fits t r room e =
     }
 
 pub add-large : (s : Sum) (r : Run) → large? r ≡ true → addRun s r ≡ record { total = s .total; large = true }
-add-large s r e = ap (λ (t : Bool). pickSum t (record { total = s .total; large = true }) (record { total = bothRuns (s .total) r; large = s .large })) e
+add-large s r e = ap (λ (t : Bool). pick t (record { total = s .total; large = true }) (record { total = bothRuns (s .total) r; large = s .large })) e
 
 pub add-small : (s : Sum) (r : Run) → large? r ≡ false → addRun s r ≡ record { total = bothRuns (s .total) r; large = s .large }
-add-small s r e = ap (λ (t : Bool). pickSum t (record { total = s .total; large = true }) (record { total = bothRuns (s .total) r; large = s .large })) e
+add-small s r e = ap (λ (t : Bool). pick t (record { total = s .total; large = true }) (record { total = bothRuns (s .total) r; large = s .large })) e
 
 add-told : (s : Sum) (r : Run) → addRun s r .large ≡ s .large || large? r
 add-told s r = go (large? r) (s .large)
   where
-    go : (t u : Bool) → pickSum t (record { total = s .total; large = true }) (record { total = bothRuns (s .total) r; large = u }) .large ≡ u || t
+    go : (t u : Bool) → pick {A = Sum} t (record { total = s .total; large = true }) (record { total = bothRuns (s .total) r; large = u }) .large ≡ u || t
     go true true = refl
     go true false = refl
     go false true = refl

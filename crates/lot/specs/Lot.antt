@@ -1,11 +1,11 @@
 -- The lot: what is answered for the counts of its runs.
 -- Assumes nothing: these are definitions.
-use mathlib.Core.Bool.{Bool, true, false, _||_}
+use mathlib.Core.Bool.{Bool, _||_}
 use mathlib.Core.List.{List}
 use Prim.Native.Nat.{ℕ, _-_}
 use lib.Dec.{eqb, ltb}
 use lib.ListN.{length, take}
-use Rattle.bases.specs.Letter.{pick}
+use Rattle.bases.specs.Pick.{pick}
 use Rattle.lot.specs.declared.answer.Lot.{Lot}
 use Rattle.lot.specs.declared.run.Run.{Run}
 use Rattle.lot.specs.Run.{mostRuns, truthOf, calledOf, anyLarge?, noRun, totalOf}
@@ -41,13 +41,9 @@ givenLot t = record {
   precision = shareOf (t .matched2) (calledOf t - t .undecided2);
 }
 
-abbrev pub pickLot : Bool → Lot → Lot → Lot
-pickLot true a b = a
-pickLot false a b = b
-
 -- What is answered where this row holds (0: none) and these are the totals.
 abbrev pub answerOf : ℕ → Run → Lot
-answerOf number total = pickLot (eqb number 0) (givenLot total) (refusedLot number)
+answerOf number total = pick (eqb number 0) (givenLot total) (refusedLot number)
 
 -- The row of a lot's runs.
 abbrev pub lotRow : List Run → ℕ

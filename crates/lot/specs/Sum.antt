@@ -1,9 +1,9 @@
 -- Runs as the code adds them up. These definitions serve only the crate itself: what a lot is stands in Lot.
 -- Assumes nothing: these are definitions.
-use mathlib.Core.Bool.{Bool, true, false}
+use mathlib.Core.Bool.{true, false}
 use Prim.Native.Nat.{ℕ, _+_, _*_, _≤_, _<_, _^_}
 use lib.Dec.{ltb}
-use Rattle.bases.specs.Letter.{pick}
+use Rattle.bases.specs.Pick.{pick}
 use Rattle.vcf.specs.Record.{mostRecords}
 use Rattle.lot.specs.declared.run.Run.{Run}
 use Rattle.lot.specs.declared.sum.Sum.{Sum}
@@ -16,13 +16,9 @@ runsRead n = pick (ltb mostRuns n) 0 n
 abbrev pub noSum : Sum
 noSum = record { total = noRun; large = false }
 
-abbrev pub pickSum : Bool → Sum → Sum → Sum
-pickSum true a b = a
-pickSum false a b = b
-
 -- One run more: one that is too large is told, and not added.
 abbrev pub addRun : Sum → Run → Sum
-addRun s r = pickSum (large? r) (record { total = s .total; large = true }) (record { total = bothRuns (s .total) r; large = s .large })
+addRun s r = pick (large? r) (record { total = s .total; large = true }) (record { total = bothRuns (s .total) r; large = s .large })
 
 -- The entries of each list are at most those of k runs.
 pub record Bounded (k : ℕ) (total : Run) : Type 0 where

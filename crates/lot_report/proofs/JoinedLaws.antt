@@ -15,7 +15,7 @@ use lib.Dec.{eqb, leb}
 use lib.ListN.{length, getD, length-append}
 use lib.Seq.{append-snoc, drop-append-add, take-length}
 use Rattle.bases.proofs.TestLaws.{of-true}
-use Rattle.bases.specs.Letter.{pick}
+use Rattle.bases.specs.Pick.{pick}
 use Rattle.lines.proofs.FieldLaws.{number-pos}
 use Rattle.lines.specs.Lines.{number}
 use Rattle.normal.proofs.DecimalLaws.{decimal-pos}

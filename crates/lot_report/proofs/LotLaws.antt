@@ -13,14 +13,14 @@ use borrow.Author.Tests.{ltb-false}
 use lib.Dec.{eqb, ltb}
 use lib.ListN.{length, replicate}
 use Rattle.bases.proofs.TestLaws.{neither}
-use Rattle.bases.specs.Letter.{pick}
+use Rattle.bases.specs.Pick.{pick}
 use Rattle.lot.proofs.BoundLaws.{FewShare, lot-few}
 use Rattle.lot.proofs.LotLaws.{row-none}
 use Rattle.lot.proofs.RefusalLaws.{number-of}
 use Rattle.lot.proofs.SumLaws.{first-given}
 use Rattle.lot.specs.declared.run.Run.{Run}
 use Rattle.lot.specs.declared.share.Share.{Share}
-use Rattle.lot.specs.Lot.{lotRow, refusedLot, givenLot, pickLot, lotOf, lotOfFirst}
+use Rattle.lot.specs.Lot.{lotRow, refusedLot, givenLot, lotOf, lotOfFirst}
 use Rattle.lot.specs.Run.{mostRuns, large?, anyLarge?, totalOf}
 use Rattle.lot_report.specs.Printable.{PrintableShare, Printable}
 
@@ -79,6 +79,6 @@ lot-told rs = (omega (arith, lot-row rs, few (eqb (length rs) 0 || ltb mostRuns 
     few false true = omega arith
     few false false = omega arith
 
-    go : (t : Bool) → (pickLot t (givenLot (totalOf rs)) (refusedLot (lotRow rs)) .list ≡ 0) × (pickLot t (givenLot (totalOf rs)) (refusedLot (lotRow rs)) .line ≡ 0)
+    go : (t : Bool) → (pick t (givenLot (totalOf rs)) (refusedLot (lotRow rs)) .list ≡ 0) × (pick t (givenLot (totalOf rs)) (refusedLot (lotRow rs)) .line ≡ 0)
     go true = (refl, refl)
     go false = (refl, refl)

@@ -18,13 +18,13 @@ use borrow.Author.Tests.{lt-ltb}
 use lib.Dec.{T, eqb, ltb}
 use lib.ListN.{length, drop}
 use Rattle.bases.proofs.TestLaws.{of-true, of-false, is-true, both}
-use Rattle.bases.specs.Letter.{pick}
+use Rattle.bases.specs.Pick.{pick}
 use Rattle.vcf.proofs.FieldLaws.{until-within, field-length, skip-more}
 use Rattle.vcf.proofs.ListLaws.{lines-at}
 use Rattle.vcf.specs.Bytes.{LF, TAB}
 use Rattle.vcf.specs.Entry.{lineAt, nextLine}
 use Rattle.vcf.specs.Field.{fieldEnd, fieldFrom, field, fieldAt, skip}
-use Rattle.vcf.specs.List.{onto, pickLines, linesOf}
+use Rattle.vcf.specs.List.{onto, linesOf}
 use Rattle.vcf.specs.Pos.{allDigits?}
 use Rattle.lot_report.specs.Count.{count?}
 use Rattle.lot_report.specs.Run.{countsOfRun, counts?, run?, badLine, allRuns?}
@@ -120,7 +120,7 @@ unfolding linesOf
 lines-few [] = omega arith
 lines-few (b ∷ bs) = go (eqb b LF) (linesOf bs) (lines-few bs)
   where
-    go : (x : Bool) (ls : List (List ℕ)) → length ls ≤ length bs → length (pickLines x ([] ∷ ls) (onto b ls)) ≤ suc (length bs)
+    go : (x : Bool) (ls : List (List ℕ)) → length ls ≤ length bs → length (pick x ([] ∷ ls) (onto b ls)) ≤ suc (length bs)
     go true ls h = omega arith
     go false [] h = omega arith
     go false (l ∷ ls) h = omega arith

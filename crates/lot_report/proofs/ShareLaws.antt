@@ -10,11 +10,11 @@ use native.Mathlib.Omega.{arith}
 use borrow.Author.Tests.{eq-eqb, ne-eqb}
 use lib.Dec.{eqb}
 use lib.ListN.{length, length-append}
+use Rattle.bases.specs.Pick.{pick}
 use Rattle.lines.proofs.FieldLaws.{field-few, fields-few}
 use Rattle.lines.specs.Lines.{field, fields}
 use Rattle.lot.specs.declared.answer.Lot.{Lot}
 use Rattle.lot.specs.declared.share.Share.{Share}
-use Rattle.normal.specs.Written.{pickBytes}
 use Rattle.vcf.specs.Bytes.{LF, TAB}
 use Rattle.lot_report.specs.Table.{noShare, SLASH, POINT, fourDigits, percent, percentMost, shareText, shareMost, lineText, lineMost}
 
@@ -38,7 +38,7 @@ pub share-few : (s : Share) (end : ℕ) → length (shareText s end) ≤ shareMo
 unfolding shareText
 share-few s end = go (eqb (s .bottom) 0)
   where
-    go : (t : Bool) → length (pickBytes t (noShare ++ (end ∷ [])) (some s end)) ≤ shareMost
+    go : (t : Bool) → length (pick t (noShare ++ (end ∷ [])) (some s end)) ≤ shareMost
     go true = omega arith
     go false =
         let a = field (s .top) SLASH in

@@ -13,6 +13,7 @@ use native.Mathlib.Omega.{arith}
 use lib.Dec.{eqb}
 use lib.ListN.{length, drop, length-append, length-drop}
 use Rattle.bases.proofs.TestLaws.{neither}
+use Rattle.bases.specs.Pick.{pick}
 use Rattle.bases.specs.Put.{put}
 use Rattle.lines.proofs.WroteLaws.{Wrote, Left, left-begin, left-then, left-end}
 use Rattle.lot.specs.Lot.{lotOf}
@@ -23,7 +24,7 @@ use Rattle.vcf.proofs.ListLaws.{lines-at, lines-past}
 use Rattle.vcf.specs.Bytes.{LF, TAB}
 use Rattle.vcf.specs.Entry.{lineAt, nextLine}
 use Rattle.vcf.specs.Field.{fieldAt}
-use Rattle.vcf.specs.List.{onto, pickLines, linesOf}
+use Rattle.vcf.specs.List.{onto, linesOf}
 use Rattle.lot_report.specs.Fine.{Fine, AllFine}
 use Rattle.lot_report.specs.Run.{nameOf, runOf, runsOn}
 use Rattle.lot_report.specs.Table.{lineMost, runText, runsText}
@@ -48,7 +49,7 @@ unfolding linesOf bytesOn
 bytes-few [] = omega arith
 bytes-few (b ∷ bs) = go (eqb b LF) (linesOf bs) (bytes-few bs)
   where
-    go : (x : Bool) (ls : List (List ℕ)) → bytesOn ls ≤ length bs → bytesOn (pickLines x ([] ∷ ls) (onto b ls)) ≤ suc (length bs)
+    go : (x : Bool) (ls : List (List ℕ)) → bytesOn ls ≤ length bs → bytesOn (pick x ([] ∷ ls) (onto b ls)) ≤ suc (length bs)
     go true ls h = omega arith
     go false [] h = omega arith
     go false (l ∷ ls) h = omega arith

@@ -6,11 +6,11 @@ use mathlib.Core.Path.{_≡_}
 use Prim.Native.Nat.{ℕ, _≤_}
 use lib.Dec.{eqb}
 use lib.ListN.{length}
+use Rattle.bases.specs.Pick.{pick}
 use Rattle.lines.specs.Lines.{fields, refusedText}
 use Rattle.lot.specs.declared.run.Run.{Run}
 use Rattle.lot.specs.Lot.{lotOf}
 use Rattle.lot.specs.Run.{large?}
-use Rattle.normal.specs.Written.{pickBytes}
 use Rattle.vcf.specs.Bytes.{LF, TAB, until}
 use Rattle.lot_report.specs.Run.{runsHeading}
 use Rattle.lot_report.specs.Table.{heading, lotName, lineText}
@@ -57,4 +57,4 @@ namedReport ns =
     let l = lotOf (runsNamed ns) in
     let table = heading ++ namedText ns ++ lineText lotName l in
     let refused = refusedText (l .number) (l .list) (l .line) in
-    pickBytes (eqb (l .number) 0) table refused
+    pick (eqb (l .number) 0) table refused

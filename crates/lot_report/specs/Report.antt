@@ -6,9 +6,9 @@ use mathlib.Core.Bool.{not}
 use mathlib.Core.List.{List}
 use Prim.Native.Nat.{ℕ}
 use lib.Dec.{eqb}
+use Rattle.bases.specs.Pick.{pick}
 use Rattle.lines.specs.Lines.{refusedText}
 use Rattle.lot.specs.Lot.{lotOf}
-use Rattle.normal.specs.Written.{pickBytes}
 use Rattle.vcf.specs.List.{textWrong?}
 use Rattle.lot_report.specs.Run.{headed?, runLines, badLine, runsOn}
 use Rattle.lot_report.specs.Table.{tableText}
@@ -19,13 +19,13 @@ runsReport ls =
     let l = lotOf (runsOn ls) in
     let table = tableText ls in
     let refused = refusedText (l .number) (l .list) (l .line) in
-    pickBytes (eqb (l .number) 0) table refused
+    pick (eqb (l .number) 0) table refused
 
 unfoldable pub reportText : List ℕ → List ℕ
 reportText t =
     let ls = runLines t in
     let bad = badLine 2 ls in
     let runs = runsReport ls in
-    pickBytes (textWrong? t) (refusedText 3 0 0)
-    (pickBytes (not (headed? t)) (refusedText 5 0 1)
-    (pickBytes (eqb bad 0) runs (refusedText 6 0 bad)))
+    pick (textWrong? t) (refusedText 3 0 0)
+    (pick (not (headed? t)) (refusedText 5 0 1)
+    (pick (eqb bad 0) runs (refusedText 6 0 bad)))

@@ -5,7 +5,7 @@ use mathlib.Core.List.{List, [], _∷_, map}
 use Prim.Native.Nat.{ℕ, zero, suc, _+_}
 use lib.Dec.{eqb, ltb}
 use lib.ListN.{length, drop, replicate}
-use Rattle.bases.specs.Letter.{pick}
+use Rattle.bases.specs.Pick.{pick}
 use Rattle.bases.specs.Same.{same?}
 use Rattle.lot.specs.declared.run.Run.{Run}
 use Rattle.lot.specs.Run.{mostRuns, noRun}

@@ -6,12 +6,12 @@ use mathlib.Core.List.{List, [], _∷_, _++_}
 use Prim.Native.Nat.{ℕ, _+_, _*_, _/_, _%_}
 use lib.Dec.{eqb}
 use lib.ListN.{length}
+use Rattle.bases.specs.Pick.{pick}
 use Rattle.lines.specs.Lines.{field, fields, fieldMost, fieldsMost}
 use Rattle.lot.specs.declared.answer.Lot.{Lot}
 use Rattle.lot.specs.declared.share.Share.{Share}
 use Rattle.lot.specs.Lot.{lotOf}
 use Rattle.lot.specs.Run.{mostRuns}
-use Rattle.normal.specs.Written.{pickBytes}
 use Rattle.vcf.specs.Bytes.{LF, TAB}
 use Rattle.vcf.specs.List.{longestText}
 use Rattle.lot_report.specs.Run.{nameOf, runOf, runsOn}
@@ -56,7 +56,7 @@ percent ppm = field (ppm / 10000) POINT ++ fourDigits ppm
 -- A share, and the byte behind it.
 unfoldable pub shareText : Share → ℕ → List ℕ
 shareText s end =
-    pickBytes (eqb (s .bottom) 0)
+    pick (eqb (s .bottom) 0)
     (noShare ++ (end ∷ []))
     (field (s .top) SLASH ++ field (s .bottom) TAB ++ field (s .ppm) TAB ++ percent (s .ppm) ++ (end ∷ []))
 

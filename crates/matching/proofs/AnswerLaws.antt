@@ -22,10 +22,11 @@ use native.Mathlib.Omega.{arith}
 use borrow.Author.Tests.{lt-ltb, le-ltb, eq-eqb, ne-eqb}
 use lib.ListN.{length, getD, set, replicate, length-append}
 use lib.Seq.{set-at}
+use Rattle.bases.specs.Pick.{pick}
 use Rattle.donors.specs.Choice.{Choice, plus, minus, out, Variant}
 use Rattle.donors.specs.Table.{most, choiceOf, choicesFrom}
 use Rattle.matching.specs.declared.answer.Best.{Best}
-use Rattle.matching.specs.Answer.{byteOf, arrayOf, answerOf, theseChoices, bytesFrom, bytesFirst?, beatsBy?, betterOf, pickBest}
+use Rattle.matching.specs.Answer.{byteOf, arrayOf, answerOf, theseChoices, bytesFrom, bytesFirst?, beatsBy?, betterOf}
 use Rattle.matching.specs.Best.{score}
 use Rattle.matching.specs.Card.{rankOf, cardScoring}
 use Rattle.matching.specs.Search.{before?, first?, beats?, better}
@@ -154,12 +155,12 @@ better-answer xs n none none l m = refl
 better-answer xs n none (some ψ) l m = refl
 better-answer xs n (some φ) none l m = refl
 better-answer xs n (some φ) (some ψ) l m =
-    ap (λ (t : Bool). pickBest (before? (score cardScoring xs ψ) (score cardScoring xs φ) t) (theseChoices xs φ) (theseChoices xs ψ)) first
+    ap (λ (t : Bool). pick (before? (score cardScoring xs ψ) (score cardScoring xs φ) t) (theseChoices xs φ) (theseChoices xs ψ)) first
     ∙ go (beats? rankOf (score cardScoring xs) φ ψ)
   where
     first : bytesFirst? n (arrayOf φ) (arrayOf ψ) ≡ first? rankOf φ ψ
     first = rw (array-bytes φ n l, array-bytes ψ n m) (byte-order φ ψ)
 
-    go : (t : Bool) → pickBest t (theseChoices xs φ) (theseChoices xs ψ) ≡ answerOf xs (some (cond t φ ψ))
+    go : (t : Bool) → pick t (theseChoices xs φ) (theseChoices xs ψ) ≡ answerOf xs (some (cond t φ ψ))
     go true = refl
     go false = refl

@@ -18,7 +18,7 @@ use native.Mathlib.Omega.{arith}
 use lib.ListN.{length}
 use Rattle.donors.specs.Choice.{Choice, plus, minus, out, Copy, copy0, copy1, Variant, chosen?, cardRules, chosenOf}
 use Rattle.donors.specs.Items.{Sorted, Solid}
-use Rattle.donors.specs.Rules.{list1, list2, put, donorOf, Allowed}
+use Rattle.donors.specs.Rules.{list1, list2, putIf, donorOf, Allowed}
 use Rattle.donors.proofs.ChoiceLaws.{card-apart}
 use Rattle.matching.specs.Best.{Best, score, IsBest}
 use Rattle.matching.specs.Card.{counts, rankOf, cardScoring, cardFinite, cardBest, LegalPair, chosenCount, BestPair}
@@ -32,7 +32,7 @@ pub rank-words : (rankOf plus < rankOf minus) × (rankOf minus < rankOf out)
 rank-words = omega arith
 
 counts-put : (s : Bool) (c : Choice) (x : Variant) (us vs : List Variant)
-    → length (put (Bool·beq list1 s && chosen? c) x us) + length (put (Bool·beq list2 s && chosen? c) x vs) ≡ counts c + (length us + length vs)
+    → length (putIf (Bool·beq list1 s && chosen? c) x us) + length (putIf (Bool·beq list2 s && chosen? c) x vs) ≡ counts c + (length us + length vs)
 counts-put true plus x us vs = omega arith
 counts-put true minus x us vs = omega arith
 counts-put true out x us vs = omega arith

@@ -15,9 +15,10 @@ use borrow.Author.Tests.{eq-eqb}
 use lib.ListN.{length}
 use Rattle.bases.specs.Letter.{basesOf}
 use Rattle.bases.proofs.TestLaws.{is-true}
+use Rattle.bases.specs.Pick.{pick}
 use Rattle.donors.specs.Agree.{Ready, oneDonor?}
 use Rattle.donors.specs.Choice.{Copy, copy0, copy1, Variant, cardRules}
-use Rattle.donors.specs.Table.{rowAt, pickList, variantOf, variantsFrom, choicesFrom, copyOf}
+use Rattle.donors.specs.Table.{rowAt, variantOf, variantsFrom, choicesFrom, copyOf}
 use Rattle.matching.specs.BestOf.{every?, keep?}
 use Rattle.matching.specs.Card.{cardFinite}
 use Rattle.matching.specs.Made.{Kept, cardLegal?}
@@ -28,7 +29,7 @@ module _ (reference first second t : List ℕ) where
   entries i n = variantsFrom reference first second t i n
 
   abbrev pub entryAt : ℕ → Variant
-  entryAt i = variantOf reference (pickList (rowAt t i .first) first second) (rowAt t i)
+  entryAt i = variantOf reference (pick (rowAt t i .first) first second) (rowAt t i)
 
   pub entries-length : (i n : ℕ) → length (entries i n) ≡ n
   unfolding variantsFrom

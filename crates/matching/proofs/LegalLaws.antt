@@ -18,7 +18,7 @@ use Rattle.bases.proofs.SameLaws.{same-iff}
 use Rattle.bases.proofs.TestLaws.{of-true, both}
 use Rattle.donors.specs.Apart.{Chain, chain?}
 use Rattle.donors.specs.Donor.{Edit}
-use Rattle.donors.specs.Rules.{Rules, list1, list2, put, editOf, edits, donorOf, Allowed}
+use Rattle.donors.specs.Rules.{Rules, list1, list2, putIf, editOf, edits, donorOf, Allowed}
 use Rattle.donors.proofs.ApartLaws.{chain-iff}
 use Rattle.donors.proofs.EditLaws.{chain-front, allowed-front}
 use Rattle.matching.specs.BestOf.{Some, Covers, every?, Finite, allowed?, apart?, sameDonors?, keep?, legal?}
@@ -37,7 +37,7 @@ every-iff {A} f P l k i = (λ t a. i a .0 (at l t a (k a)), λ p. from l p)
     from [] p = tt
     from (b ∷ l) p = both (f b) (every? f l) .1 (i b .1 (p b), from l p)
 
-put-off : (t : Bool) (e : Edit) (es : List Edit) → put (t && false) e es ≡ es
+put-off : (t : Bool) (e : Edit) (es : List Edit) → putIf (t && false) e es ≡ es
 put-off true e es = refl
 put-off false e es = refl
 
@@ -100,7 +100,7 @@ module _ {X C H : Type 0} (𝓡 : Rules X C H) (𝓕 : Finite 𝓡) where
   edits-out j h [] = refl
   edits-out j h (x ∷ xs) =
       let r = replicate (length xs) (𝓕 .out) in
-      ap (λ (t : Bool). put (Bool·beq j (𝓡 .side x) && t) (editOf 𝓡 x (𝓕 .out) h) (edits 𝓡 j h xs r)) (𝓕 .out-room x h)
+      ap (λ (t : Bool). putIf (Bool·beq j (𝓡 .side x) && t) (editOf 𝓡 x (𝓕 .out) h) (edits 𝓡 j h xs r)) (𝓕 .out-room x h)
       ∙ put-off (Bool·beq j (𝓡 .side x)) (editOf 𝓡 x (𝓕 .out) h) (edits 𝓡 j h xs r) ∙ edits-out j h xs
 
   allowed-out : (xs : List X) → Allowed 𝓡 xs (replicate (length xs) (𝓕 .out))

@@ -14,12 +14,12 @@ use Prim.Native.Nat.{ℕ, _+_, _≤_, _<_}
 use native.Mathlib.Omega.{arith}
 use lib.Dec.{T}
 use lib.ListN.{length, set, replicate}
-use Rattle.bases.specs.Letter.{pick}
 use Rattle.bases.proofs.TestLaws.{both, is-false}
+use Rattle.bases.specs.Pick.{pick}
 use Rattle.donors.specs.Apart.{Chain}
 use Rattle.donors.specs.Choice.{Choice, plus, minus, out, Copy, copy0, Variant, chosen?, cardRules}
 use Rattle.donors.specs.Donor.{Edit, end}
-use Rattle.donors.specs.Rules.{put, editOf, takes?, edits}
+use Rattle.donors.specs.Rules.{putIf, editOf, takes?, edits}
 use Rattle.donors.specs.Table.{most, choicesFrom}
 use Rattle.donors.proofs.EditLaws.{edits-append}
 use Rattle.donors.proofs.TableLaws.{taken-side}
@@ -52,7 +52,7 @@ unfolding reached
 reached-one a [] e = refl
 reached-one a (d ∷ es) e = reached-one (end d) es e
 
-reached-put : (t : Bool) (e f : Edit) (es fs : List Edit) (a : ℕ) → end e ≡ end f → ((b : ℕ) → reached b es ≡ reached b fs) → reached a (put t e es) ≡ reached a (put t f fs)
+reached-put : (t : Bool) (e f : Edit) (es fs : List Edit) (a : ℕ) → end e ≡ end f → ((b : ℕ) → reached b es ≡ reached b fs) → reached a (putIf t e es) ≡ reached a (putIf t f fs)
 unfolding reached
 reached-put true e f es fs a k g = ap (λ (b : ℕ). reached b es) k ∙ g (end f)
 reached-put false e f es fs a k g = g a
@@ -109,7 +109,7 @@ module _ (us : List Variant) (x : Variant) (vs : List Variant) (φ : List Choice
       ap (edits cardRules j h xs) (sym (append-nil φ)) ∙ edits-append cardRules j h us (x ∷ vs) φ [] l
       ∙ ap (λ (es : List Edit). edits cardRules j h us φ ++ es) (edits-none j h (x ∷ vs)) ∙ append-nil (edits cardRules j h us φ)
 
-  edits-one : (j : Bool) (h : Copy) (c : Choice) → edits cardRules j h xs (φ ++ (c ∷ [])) ≡ edits cardRules j h xs φ ++ put (takes? cardRules j h x c) (editOf cardRules x c h) []
+  edits-one : (j : Bool) (h : Copy) (c : Choice) → edits cardRules j h xs (φ ++ (c ∷ [])) ≡ edits cardRules j h xs φ ++ putIf (takes? cardRules j h x c) (editOf cardRules x c h) []
   unfolding edits
   edits-one j h c = edits-append cardRules j h us (x ∷ vs) φ (c ∷ []) l ∙ rw (edits-so-far j h, edits-none j h vs)
 
@@ -122,7 +122,7 @@ module _ (us : List Variant) (x : Variant) (vs : List Variant) (φ : List Choice
 
   -- what one more choice does to the edits
   kept-put : (j : Bool) (h : Copy) (c : Choice) (t : Bool) → (T t → reached 0 (edits cardRules j h xs φ) ≤ x .start) → Chain 0 (edits cardRules j h xs φ)
-      → Chain 0 (edits cardRules j h xs φ ++ put t (editOf cardRules x c h) [])
+      → Chain 0 (edits cardRules j h xs φ ++ putIf t (editOf cardRules x c h) [])
   kept-put j h c true f k = chain-one 0 (edits cardRules j h xs φ) (editOf cardRules x c h) .1 (k, f tt)
   kept-put j h c false f k = rw (append-nil (edits cardRules j h xs φ)) k
 
@@ -132,7 +132,7 @@ module _ (us : List Variant) (x : Variant) (vs : List Variant) (φ : List Choice
       (λ t. rw (reached-copies j h xs φ 0) (subst (λ (s : Bool). endOf s xs φ ≤ x .start) (taken-side j (x .side) (chosen? c) t) (f (both (Bool·beq j (x .side)) (chosen? c) .0 t .1))))
       (keep-words xs φ .0 k j h)))
 
-  put-dropped : (h : Copy) (c : Choice) (s : Bool) → T (chosen? c) → put (Bool·beq s s && chosen? c) (editOf cardRules x c h) [] ≡ editOf cardRules x c h ∷ []
+  put-dropped : (h : Copy) (c : Choice) (s : Bool) → T (chosen? c) → putIf (Bool·beq s s && chosen? c) (editOf cardRules x c h) [] ≡ editOf cardRules x c h ∷ []
   put-dropped h plus true t = refl
   put-dropped h plus false t = refl
   put-dropped h minus true t = refl
@@ -145,7 +145,7 @@ module _ (us : List Variant) (x : Variant) (vs : List Variant) (φ : List Choice
       let d = rw (edits-one (x .side) copy0 c, put-dropped copy0 c (x .side) t) at (keep-words xs (φ ++ (c ∷ [])) .0 k (x .side) copy0) in
       omega (arith, chain-one 0 (edits cardRules (x .side) copy0 xs φ) (editOf cardRules x c copy0) .0 d .1))
 
-  end-put : (j : Bool) (t : Bool) (c : Choice) → reached 0 (edits cardRules j copy0 xs φ ++ put t (editOf cardRules x c copy0) []) ≡ pick t (x .start + x .len) (endOf j xs φ)
+  end-put : (j : Bool) (t : Bool) (c : Choice) → reached 0 (edits cardRules j copy0 xs φ ++ putIf t (editOf cardRules x c copy0) []) ≡ pick t (x .start + x .len) (endOf j xs φ)
   end-put j true c = reached-one 0 (edits cardRules j copy0 xs φ) (editOf cardRules x c copy0)
   end-put j false c = rw (append-nil (edits cardRules j copy0 xs φ))
 

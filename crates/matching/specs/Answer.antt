@@ -5,6 +5,7 @@ use mathlib.Core.List.{List, [], _∷_, _++_, map}
 use mathlib.Core.Option.{Option, none, some}
 use Prim.Native.Nat.{ℕ, zero, suc, _+_, _-_}
 use lib.ListN.{length, getD, replicate}
+use Rattle.bases.specs.Pick.{pick}
 use Rattle.donors.specs.Choice.{Choice, plus, minus, out, Variant}
 use Rattle.donors.specs.Table.{most}
 use Rattle.matching.specs.declared.answer.Best.{Best}
@@ -48,10 +49,6 @@ bytesFirst? n c d = first? (λ (b : ℕ). b) (bytesFrom c 0 n) (bytesFrom d 0 n)
 abbrev pub beatsBy? : ℕ → Best → Best → Bool
 beatsBy? n a b = before? (b .score) (a .score) (bytesFirst? n (a .choices) (b .choices))
 
-abbrev pub pickBest : Bool → Best → Best → Best
-pickBest true a b = a
-pickBest false a b = b
-
 -- The better of two answers: what was found before what was not, and what beats before what is beaten.
 abbrev pub betterOf : ℕ → Best → Best → Best
-betterOf n a b = pickBest (a .found) (pickBest (b .found) (pickBest (beatsBy? n a b) a b) a) b
+betterOf n a b = pick (a .found) (pick (b .found) (pick (beatsBy? n a b) a b) a) b

@@ -6,7 +6,7 @@ use mathlib.Core.Option.{Option}
 use mathlib.Core.Path.{_≡_}
 use Prim.Native.Nat.{ℕ}
 use lib.Dec.{T}
-use Rattle.bases.specs.Letter.{pick}
+use Rattle.bases.specs.Pick.{pick}
 use Rattle.donors.specs.Choice.{Choice, copy0, Variant, cardRules}
 use Rattle.donors.specs.Donor.{Edit, end}
 use Rattle.donors.specs.Rules.{edits}

@@ -3,19 +3,19 @@
 --     alts-one, alts-two       where it is right beside REF
 --     old-first, old-second    what is known of ALT where it is right
 -- Assumes nothing.
-use mathlib.Core.Bool.{Bool, true, false, not, _&&_, _||_}
-use mathlib.Core.List.{List, [], _∷_, _++_}
-use mathlib.Core.Path.{_≡_, refl, sym, ap, _∙_}
-use Prim.Native.Nat.{ℕ, _+_, _-_, _≤_, _<_}
+use mathlib.Core.Bool.{true, false, not, _&&_, _||_}
+use mathlib.Core.List.{List, _∷_, _++_}
+use mathlib.Core.Path.{_≡_, refl}
+use Prim.Native.Nat.{ℕ, _+_, _-_}
 use native.Mathlib.Omega.{arith}
 use borrow.Author.Tests.{lt-ltb, le-ltb}
-use lib.Dec.{T, ltb}
-use lib.ListN.{length, take, drop, length-append}
-use lib.Seq.{take-length, take-at, drop-append-add, append-snoc}
+use lib.Dec.{T}
+use lib.ListN.{length, length-append}
+use lib.Seq.{take-length, take-at, drop-append-add}
 use Rattle.bases.specs.Same.{sameBases?}
 use Rattle.bases.proofs.TestLaws.{neither, is-true}
 use Rattle.vcf.specs.Allele.{isAllele?, firstAlt, twoAlts?, secondAlt, notNew?, altsWrong?}
-use Rattle.vcf.specs.Bytes.{COMMA, until}
+use Rattle.vcf.specs.Bytes.{COMMA}
 use Rattle.normal.proofs.WithoutLaws.{Without, until-found}
 
 module _ (a : List ℕ) (w : Without COMMA a) where

@@ -4,19 +4,19 @@
 --     decimal-read                                     a POS that is read is written as it stood
 --     decimal-le, decimal-add                          a smaller number has no more digits; a larger one at most as many more as it is larger
 -- Assumes nothing.
-use mathlib.Core.Bool.{Bool, true, false, not, _&&_}
+use mathlib.Core.Bool.{Bool, true, false, not}
 use mathlib.Core.List.{List, [], _∷_, _++_}
 use mathlib.Core.Path.{_≡_, refl, sym, ap, subst, _∙_}
-use Prim.Native.Nat.{ℕ, zero, suc, _+_, _-_, _*_, _/_, _%_, _≤_, _<_}
+use Prim.Native.Nat.{ℕ, zero, suc, _+_, _-_, _*_, _/_, _%_, _≤_}
 use native.Mathlib.Omega.{arith}
 use borrow.Author.Tests.{ltb-true, ltb-false, le-leb, lt-ltb, le-ltb, ne-eqb, eq-eqb}
 use lib.Dec.{T, ltb, leb, eqb, leb→le, T-not}
 use lib.ListN.{length, getD, length-append}
-use Rattle.bases.specs.Letter.{pick}
 use Rattle.bases.proofs.TestLaws.{both, of-true, is-true}
+use Rattle.bases.specs.Pick.{pick}
 use Rattle.vcf.specs.Pos.{digit?, allDigits?, valueFrom, largestPos, isPos?, readPos}
 use Rattle.vcf.proofs.PosLaws.{value-grows}
-use Rattle.normal.specs.Written.{pickBytes, digitsOf, decimal}
+use Rattle.normal.specs.Written.{digitsOf, decimal}
 
 value-snoc : (v : ℕ) (ds : List ℕ) (d : ℕ) → valueFrom v (ds ++ (d ∷ [])) ≡ valueFrom v ds * 10 + (d - 48)
 unfolding valueFrom
@@ -61,7 +61,7 @@ unfolding digitsOf valueFrom
 digits-value zero n h = sym h
 digits-value (suc k) n h = go (ltb n 10) refl (digits-value k (n / 10) h)
   where
-    go : (t : Bool) → ltb n 10 ≡ t → valueFrom 0 (digitsOf k (n / 10)) ≡ n / 10 → valueFrom 0 (pickBytes t ((48 + n) ∷ []) (digitsOf k (n / 10) ++ ((48 + n % 10) ∷ []))) ≡ n
+    go : (t : Bool) → ltb n 10 ≡ t → valueFrom 0 (digitsOf k (n / 10)) ≡ n / 10 → valueFrom 0 (pick t ((48 + n) ∷ []) (digitsOf k (n / 10) ++ ((48 + n % 10) ∷ []))) ≡ n
     go true e r = omega arith
     go false e r = value-snoc 0 (digitsOf k (n / 10)) (48 + n % 10) ∙ omega arith
 
@@ -70,7 +70,7 @@ unfolding digitsOf allDigits?
 digits-digits zero n = tt
 digits-digits (suc k) n = go (ltb n 10) refl (digits-digits k (n / 10))
   where
-    go : (t : Bool) → ltb n 10 ≡ t → T (allDigits? (digitsOf k (n / 10))) → T (allDigits? (pickBytes t ((48 + n) ∷ []) (digitsOf k (n / 10) ++ ((48 + n % 10) ∷ []))))
+    go : (t : Bool) → ltb n 10 ≡ t → T (allDigits? (digitsOf k (n / 10))) → T (allDigits? (pick t ((48 + n) ∷ []) (digitsOf k (n / 10) ++ ((48 + n % 10) ∷ []))))
     go true e r = both (digit? (48 + n)) true .1 (digit-is (48 + n) (omega arith) (omega (arith, ltb-true n 10 e)), tt)
     go false e r = digits-snoc (digitsOf k (n / 10)) (48 + n % 10) r (digit-is (48 + n % 10) (omega arith) (omega arith))
 
@@ -79,7 +79,7 @@ unfolding digitsOf
 digits-first zero n h l = λ e. omega arith
 digits-first (suc k) n h l = go (ltb n 10) refl (digits-first k (n / 10) h)
   where
-    go : (t : Bool) → ltb n 10 ≡ t → (1 ≤ n / 10 → getD (digitsOf k (n / 10)) 0 48 ≡ 48 → ⊥) → getD (pickBytes t ((48 + n) ∷ []) (digitsOf k (n / 10) ++ ((48 + n % 10) ∷ []))) 0 48 ≡ 48 → ⊥
+    go : (t : Bool) → ltb n 10 ≡ t → (1 ≤ n / 10 → getD (digitsOf k (n / 10)) 0 48 ≡ 48 → ⊥) → getD (pick t ((48 + n) ∷ []) (digitsOf k (n / 10) ++ ((48 + n % 10) ∷ []))) 0 48 ≡ 48 → ⊥
     go true f r e = omega arith
     go false f r e = first-snoc (digitsOf k (n / 10)) (48 + n % 10) (r (omega (arith, ltb-false n 10 f))) e
 
@@ -96,7 +96,7 @@ pub decimal-some : (n : ℕ) → 1 ≤ length (decimal n)
 unfolding digitsOf
 decimal-some n = go (ltb n 10) (digitsOf 4 (n / 10))
   where
-    go : (t : Bool) (ds : List ℕ) → 1 ≤ length (pickBytes t ((48 + n) ∷ []) (ds ++ ((48 + n % 10) ∷ [])))
+    go : (t : Bool) (ds : List ℕ) → 1 ≤ length (pick t ((48 + n) ∷ []) (ds ++ ((48 + n % 10) ∷ [])))
     go true ds = omega arith
     go false ds = omega (arith, length-append ds ((48 + n % 10) ∷ []))
 
@@ -166,7 +166,7 @@ digits-le zero m n h = omega arith
 digits-le (suc k) m n h = go (ltb m 10) (ltb n 10) refl refl (digits-le k (m / 10) (n / 10) (omega arith))
   where
     go : (s t : Bool) → ltb m 10 ≡ s → ltb n 10 ≡ t → length (digitsOf k (m / 10)) ≤ length (digitsOf k (n / 10))
-        → length (pickBytes s ((48 + m) ∷ []) (digitsOf k (m / 10) ++ ((48 + m % 10) ∷ []))) ≤ length (pickBytes t ((48 + n) ∷ []) (digitsOf k (n / 10) ++ ((48 + n % 10) ∷ [])))
+        → length (pick s ((48 + m) ∷ []) (digitsOf k (m / 10) ++ ((48 + m % 10) ∷ []))) ≤ length (pick t ((48 + n) ∷ []) (digitsOf k (n / 10) ++ ((48 + n % 10) ∷ [])))
     go true true d e r = omega arith
     go true false d e r = omega (arith, length-append (digitsOf k (n / 10)) ((48 + n % 10) ∷ []))
     go false true d e r = absurd (omega (arith, ltb-false m 10 d, ltb-true n 10 e))
@@ -178,7 +178,7 @@ unfolding digitsOf
 digits-few zero n h = omega arith
 digits-few (suc k) n h = go (ltb n 10) refl (digits-few k (n / 10))
   where
-    go : (t : Bool) → ltb n 10 ≡ t → (1 ≤ n / 10 → length (digitsOf k (n / 10)) ≤ n / 10) → length (pickBytes t ((48 + n) ∷ []) (digitsOf k (n / 10) ++ ((48 + n % 10) ∷ []))) ≤ n
+    go : (t : Bool) → ltb n 10 ≡ t → (1 ≤ n / 10 → length (digitsOf k (n / 10)) ≤ n / 10) → length (pick t ((48 + n) ∷ []) (digitsOf k (n / 10) ++ ((48 + n % 10) ∷ []))) ≤ n
     go true e r = omega arith
     go false e r = omega (arith, length-append (digitsOf k (n / 10)) ((48 + n % 10) ∷ []), ltb-false n 10 e, r (omega (arith, ltb-false n 10 e)))
 
@@ -188,7 +188,7 @@ digits-add zero m n h = omega arith
 digits-add (suc k) m n h = go (ltb m 10) (ltb n 10) refl refl (digits-add k (m / 10) (n / 10) (omega arith))
   where
     go : (s t : Bool) → ltb m 10 ≡ s → ltb n 10 ≡ t → length (digitsOf k (n / 10)) ≤ length (digitsOf k (m / 10)) + (n / 10 - m / 10)
-        → length (pickBytes t ((48 + n) ∷ []) (digitsOf k (n / 10) ++ ((48 + n % 10) ∷ []))) ≤ length (pickBytes s ((48 + m) ∷ []) (digitsOf k (m / 10) ++ ((48 + m % 10) ∷ []))) + (n - m)
+        → length (pick t ((48 + n) ∷ []) (digitsOf k (n / 10) ++ ((48 + n % 10) ∷ []))) ≤ length (pick s ((48 + m) ∷ []) (digitsOf k (m / 10) ++ ((48 + m % 10) ∷ []))) + (n - m)
     go true true d e r = omega arith
     go true false d e r =
         omega (arith, length-append (digitsOf k (n / 10)) ((48 + n % 10) ∷ []), digits-few k (n / 10) (omega (arith, ltb-false n 10 e)), ltb-true m 10 d, ltb-false n 10 e)

@@ -16,6 +16,7 @@ use lib.Dec.{eqb}
 use lib.ListN.{length, getD, drop, length-drop}
 use lib.Seq.{length-take-le}
 use Rattle.bases.specs.Letter.{basesOf}
+use Rattle.bases.specs.Pick.{pick}
 use Rattle.vcf.specs.declared.entry.Part.{Part}
 use Rattle.vcf.specs.declared.entry.Entry.{Entry}
 use Rattle.vcf.specs.Entry.{part, bytesOf}
@@ -23,7 +24,7 @@ use Rattle.normal.specs.declared.cut.Cuts.{Cuts}
 use Rattle.normal.specs.declared.entry.Spelled.{Spelled}
 use Rattle.normal.specs.Form.{Form}
 use Rattle.normal.specs.Cut.{run, all?, shortest, backAt, backAlike?, frontAlike?, cutOf, trimOf}
-use Rattle.normal.specs.Spelled.{three, cutsOf, takenIn, spelled, pickPart, pickAlts, startOf, lastAlt, formOf, Within, Stands, normalEntry}
+use Rattle.normal.specs.Spelled.{three, cutsOf, takenIn, spelled, startOf, lastAlt, formOf, Within, Stands, normalEntry}
 use Rattle.normal.proofs.AlikeLaws.{three-shortest}
 use Rattle.normal.proofs.RunLaws.{run-le}
 
@@ -63,7 +64,7 @@ twin-cuts r s a b =
     ∙ ap (λ (n : ℕ). run (frontAlike? (two s a b)) (shortest a (b ∷ []) - (n + 1))) q in
     cc
 
-last-three : (r : List ℕ) (s : ℕ) (a text : List ℕ) (p q : Part) (t : Bool) → cutsOf r (three s a (basesOf (bytesOf text p)) (basesOf (bytesOf text (pickPart t q p)))) ≡ cutsOf r (record { start = s; ref = a; alts = pickAlts t (basesOf (bytesOf text p) ∷ basesOf (bytesOf text q) ∷ []) (basesOf (bytesOf text p) ∷ []) })
+last-three : (r : List ℕ) (s : ℕ) (a text : List ℕ) (p q : Part) (t : Bool) → cutsOf r (three s a (basesOf (bytesOf text p)) (basesOf (bytesOf text (pick t q p)))) ≡ cutsOf r (record { start = s; ref = a; alts = pick t (basesOf (bytesOf text p) ∷ basesOf (bytesOf text q) ∷ []) (basesOf (bytesOf text p) ∷ []) })
 last-three r s a text p q true = refl
 last-three r s a text p q false = twin-cuts r s a (basesOf (bytesOf text p))
 

@@ -2,7 +2,7 @@
 --     normal-cut    the closed form takes the same from each allele, and leaves none empty
 --     normal-is     what it gives is normal
 -- Assumes nothing.
-use mathlib.Core.List.{List, _++_, map, List·Memᴰ·head, List·Memᴰ·tail, List·Memᴰ·cases-cons, Memᴰ·map, Memᴰ·of-map}
+use mathlib.Core.List.{List, _++_, List·Memᴰ·head, List·Memᴰ·tail, List·Memᴰ·cases-cons, Memᴰ·map, Memᴰ·of-map}
 use mathlib.Core.Logic.{_⊎_, ⊎-elim}
 use mathlib.Core.Path.{_≡_, refl, sym, ap, _∙_}
 use Prim.Native.Nat.{ℕ, _+_, _-_, _≤_, _<_}
@@ -12,7 +12,7 @@ use lib.ListN.{length, getD, take, drop}
 use lib.Seq.{getD-take, getD-drop}
 use borrow.Author.Tests.{eq-eqb}
 use Rattle.bases.proofs.TestLaws.{of-true}
-use Rattle.normal.specs.Form.{Form, alleles, Each, One, OnReference, NoneEmpty, first, last, AllEndAlike, AllBeginAlike, Normal}
+use Rattle.normal.specs.Form.{Form, alleles, Each, One, OnReference, NoneEmpty, first, AllEndAlike, AllBeginAlike, Normal}
 use Rattle.normal.specs.Cut.{shortest, backAt, backAlike?, frontAlike?, cutOf, trimOf, newStart, between, cutForm}
 use Rattle.normal.proofs.MemberLaws.{all-iff}
 use Rattle.normal.proofs.RunLaws.{le-or-lt, run-le, run-below, run-stop, shortest-le, shortest-one}

@@ -6,7 +6,6 @@
 --     line-split, line-record                  a line, by its first field; by its first five
 --     field-0 .. field-4, field-more, rest-5, ten-fields   the fields of a record's line
 -- Assumes nothing.
-use mathlib.Core.Bool.{Bool, true, false, _&&_}
 use mathlib.Core.List.{List, [], _∷_, _++_}
 use mathlib.Core.Path.{_≡_, refl, sym, ap, _∙_}
 use Prim.Native.Nat.{ℕ, zero, suc, _+_, _≤_, _<_}
@@ -15,7 +14,7 @@ use native.Mathlib.Nat.{not-suc-le-zero, le-of-suc-le-suc}
 use native.Mathlib.Omega.{arith}
 use borrow.Author.Tests.{lt-ltb, le-ltb, eq-eqb, ne-eqb}
 use lib.Dec.{T, eqb, ltb, ltb→lt, lit<}
-use lib.ListN.{length, take, drop, length-append, length-drop}
+use lib.ListN.{length, drop, length-append, length-drop}
 use lib.Seq.{append-snoc, drop-append-add, take-at, drop-drop}
 use Rattle.bases.proofs.TestLaws.{is-false, both}
 use Rattle.vcf.specs.Bytes.{TAB, until}

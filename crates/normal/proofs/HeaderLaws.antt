@@ -6,16 +6,15 @@
 -- Assumes nothing.
 use mathlib.Core.Bool.{Bool, true, false}
 use mathlib.Core.List.{List, [], _∷_, _++_}
-use mathlib.Core.Path.{_≡_, refl, sym, ap, _∙_}
-use Prim.Native.Nat.{ℕ, zero, suc, _+_, _≤_, _<_}
+use mathlib.Core.Path.{_≡_, refl, ap}
+use Prim.Native.Nat.{ℕ, _+_}
 use native.Mathlib.Decide.{ℕ-discrete}
 use native.Mathlib.Omega.{arith}
 use lib.ListN.{length}
-use Rattle.bases.specs.Letter.{pick}
-use Rattle.vcf.specs.declared.list.Stage.{Stage}
+use Rattle.bases.specs.Pick.{pick}
 use Rattle.vcf.specs.Entry.{headerBytes}
 use Rattle.vcf.specs.Header.{headerLine?}
-use Rattle.vcf.specs.List.{pickLines, above, belowAt, nextStage, lineRows, judgeLines}
+use Rattle.vcf.specs.List.{above, belowAt, nextStage, lineRows, judgeLines}
 use Rattle.vcf.specs.Record.{posOn, recordRows}
 use Rattle.vcf.specs.Row.{firstRow}
 use Rattle.vcf.proofs.AcceptedLaws.{Records}
@@ -26,18 +25,18 @@ use Rattle.normal.proofs.TextLaws.{text-cons-length}
 
 unfoldable pub headerOf : List (List ℕ) → List (List ℕ)
 headerOf [] = []
-headerOf (l ∷ ls) = let more = headerOf ls in l ∷ pickLines (headerLine? l) more []
+headerOf (l ∷ ls) = let more = headerOf ls in l ∷ pick (headerLine? l) more []
 
 unfoldable pub recordsOf : List (List ℕ) → List (List ℕ)
 recordsOf [] = []
-recordsOf (l ∷ ls) = let more = recordsOf ls in pickLines (headerLine? l) more ls
+recordsOf (l ∷ ls) = let more = recordsOf ls in pick (headerLine? l) more ls
 
 pub header-split : (ls : List (List ℕ)) → ls ≡ headerOf ls ++ recordsOf ls
 unfolding headerOf recordsOf
 header-split [] = refl
 header-split (l ∷ ls) = go (headerLine? l) (header-split ls)
   where
-    go : (t : Bool) → ls ≡ headerOf ls ++ recordsOf ls → l ∷ ls ≡ (l ∷ pickLines t (headerOf ls) []) ++ pickLines t (recordsOf ls) ls
+    go : (t : Bool) → ls ≡ headerOf ls ++ recordsOf ls → l ∷ ls ≡ (l ∷ pick t (headerOf ls) []) ++ pick t (recordsOf ls) ls
     go true r = ap (λ (z : List (List ℕ)). l ∷ z) r
     go false r = refl
 
@@ -46,7 +45,7 @@ unfolding headerBytes headerOf textOf
 header-bytes [] = refl
 header-bytes (l ∷ ls) = go (headerLine? l) (header-bytes ls)
   where
-    go : (t : Bool) → headerBytes ls ≡ length (textOf (headerOf ls)) → length l + 1 + pick t (headerBytes ls) 0 ≡ length (textOf (l ∷ pickLines t (headerOf ls) []))
+    go : (t : Bool) → headerBytes ls ≡ length (textOf (headerOf ls)) → length l + 1 + pick t (headerBytes ls) 0 ≡ length (textOf (l ∷ pick t (headerOf ls) []))
     go true r = omega (arith, text-cons-length l (headerOf ls))
     go false r = omega (arith, text-cons-length l [])
 
@@ -68,7 +67,7 @@ module _ (reference name : List ℕ) where
   unfolding headerOf recordsOf
   kept-cons n l ls rs z e more h = go (headerLine? l) refl
     where
-      go : (t : Bool) → headerLine? l ≡ t → Kept n (l ∷ pickLines t (headerOf ls) []) rs
+      go : (t : Bool) → headerLine? l ≡ t → Kept n (l ∷ pick t (headerOf ls) []) rs
       go true b =
           let k = more (rw (next-header above l refl b) at e) in
           record {

@@ -3,15 +3,16 @@
 --     line-shrinks            what its normal form keeps
 --     NewAlleles, new-alleles     REF and the ALTs are alleles that differ and are not longer, and the end does not move right
 -- Assumes nothing.
-use mathlib.Core.Bool.{Bool, true, false, not, _&&_, _||_}
-use mathlib.Core.List.{List, [], _∷_, _++_}
-use mathlib.Core.Path.{_≡_, refl, sym, ap, subst, _∙_}
-use Prim.Native.Nat.{ℕ, zero, suc, _+_, _-_, _≤_, _<_}
+use mathlib.Core.Bool.{Bool, true, false, _&&_}
+use mathlib.Core.List.{List}
+use mathlib.Core.Path.{_≡_, refl, sym, ap, _∙_}
+use Prim.Native.Nat.{ℕ, _+_, _-_, _≤_}
 use native.Mathlib.Omega.{arith}
 use borrow.Author.Tests.{le-leb}
 use lib.Dec.{T, eqb, leb}
-use lib.ListN.{length, take, drop, length-append, length-drop}
-use Rattle.bases.specs.Letter.{pick, allLetters?, basesOf}
+use lib.ListN.{length}
+use Rattle.bases.specs.Letter.{allLetters?, basesOf}
+use Rattle.bases.specs.Pick.{pick}
 use Rattle.bases.specs.Same.{sameBases?}
 use Rattle.bases.proofs.LetterLaws.{bases-length}
 use Rattle.bases.proofs.SameLaws.{same-iff}

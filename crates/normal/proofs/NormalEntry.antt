@@ -13,13 +13,14 @@ use lib.Dec.{eqb}
 use lib.ListN.{length, take, drop}
 use Rattle.bases.specs.Letter.{basesOf}
 use Rattle.bases.proofs.LetterLaws.{bases-length, bases-part}
+use Rattle.bases.specs.Pick.{pick}
 use Rattle.vcf.specs.declared.entry.Part.{Part}
 use Rattle.vcf.specs.declared.entry.Entry.{Entry}
 use Rattle.vcf.specs.Entry.{part, bytesOf}
 use Rattle.normal.specs.declared.cut.Cuts.{Cuts}
 use Rattle.normal.specs.Form.{Form, OnReference, NoneEmpty, NormalForm}
 use Rattle.normal.specs.Cut.{newStart, between, normalOf}
-use Rattle.normal.specs.Spelled.{cutsOf, spelled, pickPart, pickAlts, startOf, formOf, Within, Stands, normalEntry, bytesSpelled, formSpelled}
+use Rattle.normal.specs.Spelled.{cutsOf, spelled, startOf, formOf, Within, Stands, normalEntry, bytesSpelled, formSpelled}
 use Rattle.normal.proofs.ExtendedLaws.{between-length}
 use Rattle.normal.proofs.CutLaws.{cut-on}
 use Rattle.normal.proofs.ExistLaws.{normal-cut}
@@ -47,7 +48,7 @@ module _ (reference text : List ℕ) (e : Entry) (st : Stands reference text e) 
   pub form-some : NoneEmpty (formOf reference text e)
   form-some b m = ⊎-elim (λ d. rw d (omega (arith, ref-length))) (alts (eqb (e .alts) 2) (st .second)) (List·Memᴰ·cases-cons m)
     where
-      alts : (t : Bool) → Within text (pickPart t (e .second) (e .first)) → List·Memᴰ b (pickAlts t (basesOf (bytesOf text (e .first)) ∷ basesOf (bytesOf text (e .second)) ∷ []) (basesOf (bytesOf text (e .first)) ∷ [])) → 1 ≤ length b
+      alts : (t : Bool) → Within text (pick t (e .second) (e .first)) → List·Memᴰ b (pick t (basesOf (bytesOf text (e .first)) ∷ basesOf (bytesOf text (e .second)) ∷ []) (basesOf (bytesOf text (e .first)) ∷ [])) → 1 ≤ length b
       alts true w n =
           ⊎-elim (λ d. rw d (some-part (e .first) (st .first)))
           (λ o. ⊎-elim (λ d. rw d (some-part (e .second) w)) (λ z. absurd (List·Memᴰ·not-nil z)) (List·Memᴰ·cases-cons o))
@@ -84,7 +85,7 @@ module _ (reference text : List ℕ) (e : Entry) (st : Stands reference text e) 
       ∙ ap (λ (z : ℕ). take z (drop n (basesOf reference))) span
       ∙ cut-on (basesOf reference) f form-on (k .back) n cut .1
 
-  left-of-alts : (t : Bool) → Within text (pickPart t (e .second) (e .first)) → k .shortest ≤ pickPart t (e .second) (e .first) .len → pickAlts t (basesOf (bytesSpelled reference text n (spelled k (e .first))) ∷ basesOf (bytesSpelled reference text n (spelled k (pickPart t (e .second) (e .first)))) ∷ []) (basesOf (bytesSpelled reference text n (spelled k (e .first))) ∷ []) ≡ map (between (basesOf reference) (startOf e) (k .back) n) (pickAlts t (basesOf (bytesOf text (e .first)) ∷ basesOf (bytesOf text (e .second)) ∷ []) (basesOf (bytesOf text (e .first)) ∷ []))
+  left-of-alts : (t : Bool) → Within text (pick t (e .second) (e .first)) → k .shortest ≤ pick t (e .second) (e .first) .len → pick t (basesOf (bytesSpelled reference text n (spelled k (e .first))) ∷ basesOf (bytesSpelled reference text n (spelled k (pick t (e .second) (e .first)))) ∷ []) (basesOf (bytesSpelled reference text n (spelled k (e .first))) ∷ []) ≡ map (between (basesOf reference) (startOf e) (k .back) n) (pick t (basesOf (bytesOf text (e .first)) ∷ basesOf (bytesOf text (e .second)) ∷ []) (basesOf (bytesOf text (e .first)) ∷ []))
   left-of-alts true w h = let a = left-of (e .first) (st .first) (kb .first) in let b = left-of (e .second) w h in cc
   left-of-alts false w h = let a = left-of (e .first) (st .first) (kb .first) in cc
 

@@ -5,28 +5,28 @@
 -- Assumes nothing.
 use mathlib.Core.Bool.{Bool, true, false, _&&_}
 use mathlib.Core.List.{List, [], _∷_, _++_}
-use mathlib.Core.Path.{_≡_, refl, sym, ap, subst, _∙_}
-use Prim.Native.Nat.{ℕ, zero, suc, _+_, _-_, _≤_, _<_}
+use mathlib.Core.Path.{_≡_, refl, subst}
+use Prim.Native.Nat.{ℕ, zero, suc, _+_, _-_, _≤_}
 use native.Mathlib.Omega.{arith}
 use lib.Dec.{T, eqb, leb, leb→le}
 use lib.ListN.{length, take, drop, length-drop}
 use lib.Seq.{take-length, length-take-le}
-use Rattle.bases.specs.Letter.{pick, isLetter?, allLetters?, basesOf}
-use Rattle.bases.specs.Reference.{isReference?, longestReference}
+use Rattle.bases.specs.Letter.{isLetter?, allLetters?, basesOf}
+use Rattle.bases.specs.Pick.{pick}
 use Rattle.bases.proofs.PartLaws.{part-part}
 use Rattle.bases.proofs.TestLaws.{both}
 use Rattle.vcf.specs.declared.entry.Part.{Part}
 use Rattle.vcf.specs.declared.entry.Entry.{Entry}
 use Rattle.vcf.specs.Allele.{isAllele?, longestAllele, firstAlt, twoAlts?, secondAlt}
 use Rattle.vcf.specs.Bytes.{LF, COMMA, until}
-use Rattle.vcf.specs.Entry.{lineAt, part, bytesOf, entryOf}
+use Rattle.vcf.specs.Entry.{lineAt, bytesOf, entryOf}
 use Rattle.vcf.specs.Field.{field, tenFields?}
 use Rattle.vcf.proofs.BytesLaws.{until-le}
 use Rattle.vcf.proofs.PartLaws.{first-within, second-within, first-bytes, second-bytes}
 use Rattle.vcf.proofs.RecordLineLaws.{RecordLine, first-allele, second-allele}
 use Rattle.normal.specs.declared.cut.Cuts.{Cuts}
 use Rattle.normal.specs.Form.{NormalForm}
-use Rattle.normal.specs.Spelled.{cutsOf, spelled, pickPart, lastAlt, formOf, Within, Stands, normalEntry, bytesSpelled, formSpelled}
+use Rattle.normal.specs.Spelled.{cutsOf, spelled, lastAlt, formOf, Within, Stands, normalEntry, bytesSpelled, formSpelled}
 use Rattle.normal.specs.Written.{newOn, newRef, newFirst, newSecond}
 use Rattle.normal.proofs.EntryLaws.{Bounds, bounds}
 use Rattle.normal.proofs.NormalEntry.{normal-entry-is}
@@ -107,7 +107,7 @@ module _ (reference l : List ℕ) (good : T (allLetters? reference)) (one : With
   in-last : Within l (lastAlt e)
   in-last = go (twoAlts? f4) (λ t. t)
     where
-      go : (t : Bool) → (T t → T (twoAlts? f4)) → Within l (pickPart (eqb (pick t 2 1) 2) (e .second) (e .first))
+      go : (t : Bool) → (T t → T (twoAlts? f4)) → Within l (pick (eqb (pick t 2 1) 2) (e .second) (e .first))
       go true h = in-second (h tt)
       go false h = in-first
 
@@ -135,7 +135,7 @@ module _ (reference l : List ℕ) (good : T (allLetters? reference)) (one : With
   last-letters : T (allLetters? (bytesOf l (lastAlt e)))
   last-letters = go (twoAlts? f4) (λ t. t)
     where
-      go : (t : Bool) → (T t → T (twoAlts? f4)) → T (allLetters? (bytesOf l (pickPart (eqb (pick t 2 1) 2) (e .second) (e .first))))
+      go : (t : Bool) → (T t → T (twoAlts? f4)) → T (allLetters? (bytesOf l (pick (eqb (pick t 2 1) 2) (e .second) (e .first))))
       go true h = rw (second-is (h tt)) (the-second (h tt) .letters)
       go false h = rw first-is (the-first .letters)
 

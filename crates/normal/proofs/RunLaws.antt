@@ -13,8 +13,8 @@ use native.Mathlib.Nat.{not-suc-le-zero, le-of-suc-le-suc, min-le-left, min-le-r
 use native.Mathlib.Omega.{arith}
 use lib.Dec.{T}
 use lib.ListN.{length}
-use Rattle.bases.specs.Letter.{pick}
 use Rattle.bases.proofs.TestLaws.{of-true, of-false}
+use Rattle.bases.specs.Pick.{pick}
 use Rattle.normal.specs.Form.{Each, One}
 use Rattle.normal.specs.Cut.{run, shortest}
 

@@ -3,20 +3,19 @@
 --     Shrinks, shrinks      no allele grows or is empty, the end does not move right, and alleles that differ still differ
 -- Assumes nothing.
 use mathlib.Core.Bool.{Bool, true, false}
-use mathlib.Core.List.{List, [], _∷_, List·Memᴰ, List·Memᴰ·head, List·Memᴰ·tail}
+use mathlib.Core.List.{List, [], _∷_, List·Memᴰ·head, List·Memᴰ·tail}
 use mathlib.Core.Path.{_≡_, refl, sym, ap, _∙_}
 use Prim.Native.Nat.{ℕ, _+_, _≤_}
-use native.Mathlib.Omega.{arith}
 use lib.Dec.{T, lit<}
 use lib.ListN.{length}
+use Rattle.bases.specs.Pick.{pick}
 use Rattle.normal.specs.Form.{Form, alleles, OnReference, NoneEmpty, donor, NormalForm}
-use Rattle.normal.specs.Spelled.{pickAlts}
 use Rattle.normal.proofs.DonorLaws.{donors-all, donor-inj}
 use Rattle.normal.proofs.MemberLaws.{map-at}
 use Rattle.normal.proofs.NormalForm.{normal-end, normal-shorter}
 
 abbrev pub formAt : Bool → ℕ → List ℕ → List ℕ → List ℕ → Form
-formAt t s a b c = record { start = s; ref = a; alts = pickAlts t (b ∷ c ∷ []) (b ∷ []) }
+formAt t s a b c = record { start = s; ref = a; alts = pick t (b ∷ c ∷ []) (b ∷ []) }
 
 -- From the alleles a, b, c at s to x, y, z at p.
 pub record Shrinks (t : Bool) (s : ℕ) (a b c : List ℕ) (p : ℕ) (x y z : List ℕ) : Type 0 where

@@ -7,15 +7,16 @@
 -- Assumes nothing.
 use mathlib.Core.Bool.{Bool, true, false}
 use mathlib.Core.List.{List, [], _∷_, _++_, append-assoc, nil≢cons}
-use mathlib.Core.Path.{_≡_, refl, sym, ap, _∙_}
-use Prim.Native.Nat.{ℕ, zero, suc, _+_, _-_, _≤_, _<_}
+use mathlib.Core.Path.{_≡_, refl, ap, _∙_}
+use Prim.Native.Nat.{ℕ, suc, _+_, _-_, _≤_}
 use native.Mathlib.Omega.{arith}
 use borrow.Author.Tests.{eqb-true}
 use lib.Dec.{eqb}
-use lib.ListN.{length, getD, take, drop, length-append}
+use lib.ListN.{length, getD, length-append}
 use lib.Seq.{take-at, drop-append-add, getD-append-add}
+use Rattle.bases.specs.Pick.{pick}
 use Rattle.vcf.specs.Bytes.{LF, until}
-use Rattle.vcf.specs.List.{onto, pickLines, linesOf}
+use Rattle.vcf.specs.List.{onto, linesOf}
 use Rattle.vcf.proofs.ListLaws.{lines-cons}
 use Rattle.normal.specs.Lines.{All}
 use Rattle.normal.specs.Written.{textOf}
@@ -42,7 +43,7 @@ unfolding linesOf until
 lines-free [] = tt
 lines-free (b ∷ bs) = go (eqb b LF) refl (linesOf bs) (lines-free bs)
   where
-    go : (u : Bool) → eqb b LF ≡ u → (ls : List (List ℕ)) → All (Without LF) ls → All (Without LF) (pickLines u ([] ∷ ls) (onto b ls))
+    go : (u : Bool) → eqb b LF ≡ u → (ls : List (List ℕ)) → All (Without LF) ls → All (Without LF) (pick u ([] ∷ ls) (onto b ls))
     go true e ls h = (refl, h)
     go false e [] h = (without-cons LF b [] e refl, tt)
     go false e (l ∷ ls) h = (without-cons LF b l e (h .0), h .1)
@@ -73,14 +74,14 @@ unfolding textOf linesOf
 text-lines [] h = refl
 text-lines (b ∷ []) h = one h
   where
-    one : b ≡ LF → textOf (pickLines (eqb b LF) ([] ∷ []) ((b ∷ []) ∷ [])) ≡ b ∷ []
+    one : b ≡ LF → textOf (pick (eqb b LF) ([] ∷ []) ((b ∷ []) ∷ [])) ≡ b ∷ []
     one e = rw e
 text-lines (b ∷ c ∷ bs) h = go (eqb b LF) refl (linesOf (c ∷ bs)) (text-lines (c ∷ bs) (rw shorter at h))
   where
     shorter : suc (suc (length bs)) - 1 ≡ suc (suc (length bs) - 1)
     shorter = omega arith
 
-    go : (u : Bool) → eqb b LF ≡ u → (ls : List (List ℕ)) → textOf ls ≡ c ∷ bs → textOf (pickLines u ([] ∷ ls) (onto b ls)) ≡ b ∷ c ∷ bs
+    go : (u : Bool) → eqb b LF ≡ u → (ls : List (List ℕ)) → textOf ls ≡ c ∷ bs → textOf (pick u ([] ∷ ls) (onto b ls)) ≡ b ∷ c ∷ bs
     go true e ls r = let f = eqb-true b LF e in cc
     go false e [] r = absurd (nil≢cons r)
     go false e (l ∷ ls) r = ap (λ (z : List ℕ). b ∷ z) r

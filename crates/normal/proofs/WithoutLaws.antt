@@ -6,17 +6,18 @@
 --     without-letters, without-digits        letters and digits are no other bytes
 --     until-split                            a list, by the first x in it
 -- Assumes nothing.
-use mathlib.Core.Bool.{Bool, true, false, _&&_}
+use mathlib.Core.Bool.{Bool, true, false}
 use mathlib.Core.List.{List, [], _∷_, _++_}
-use mathlib.Core.Path.{_≡_, refl, sym, ap, subst, _∙_}
-use Prim.Native.Nat.{ℕ, zero, suc, _+_, _≤_, _<_}
+use mathlib.Core.Path.{_≡_, refl, ap, subst, _∙_}
+use Prim.Native.Nat.{ℕ, suc, _+_, _<_}
 use native.Mathlib.Nat.{zero-add, suc-add, not-suc-le-zero}
 use native.Mathlib.Omega.{arith}
 use borrow.Author.Tests.{eqb-true, eq-eqb}
 use lib.Dec.{T, eqb}
 use lib.ListN.{length, take, drop, length-append}
-use Rattle.bases.specs.Letter.{pick, isLetter?, allLetters?}
+use Rattle.bases.specs.Letter.{isLetter?, allLetters?}
 use Rattle.bases.proofs.TestLaws.{both, of-false}
+use Rattle.bases.specs.Pick.{pick}
 use Rattle.vcf.specs.Bytes.{until}
 use Rattle.vcf.specs.Pos.{digit?, allDigits?}
 

@@ -6,24 +6,25 @@
 use mathlib.Core.Bool.{Bool, true, false}
 use mathlib.Core.List.{List, [], _∷_, _++_}
 use mathlib.Core.Path.{_≡_, refl, sym, ap, subst, _∙_}
-use Prim.Native.Nat.{ℕ, zero, suc, _+_, _-_, _≤_, _<_}
+use Prim.Native.Nat.{ℕ, _+_, _-_, _≤_}
 use native.Mathlib.Omega.{arith}
 use lib.Dec.{T, eqb}
 use lib.ListN.{length, take, drop}
-use Rattle.bases.specs.Letter.{pick, isLetter?, allLetters?, letterOf, among?, basesOf}
+use Rattle.bases.specs.Letter.{isLetter?, allLetters?, letterOf, among?, basesOf}
+use Rattle.bases.specs.Pick.{pick}
 use Rattle.bases.specs.Reference.{longestReference}
 use Rattle.bases.proofs.LetterLaws.{letter-iff, letter-self}
 use Rattle.bases.proofs.TestLaws.{both}
 use Rattle.vcf.specs.Allele.{altCount, firstAlt, twoAlts?, secondAlt}
 use Rattle.vcf.specs.Bytes.{LF, TAB, COMMA}
 use Rattle.vcf.specs.Entry.{part, bytesOf, entryOf}
-use Rattle.vcf.specs.Field.{field, fieldAt}
+use Rattle.vcf.specs.Field.{field}
 use Rattle.vcf.specs.Record.{posOn}
 use Rattle.vcf.proofs.RecordLineLaws.{RecordLine}
-use Rattle.normal.specs.Form.{Form, NormalForm}
+use Rattle.normal.specs.Form.{Form}
 use Rattle.normal.specs.Cut.{normalOf}
-use Rattle.normal.specs.Spelled.{pickAlts, formOf, formSpelled}
-use Rattle.normal.specs.Written.{pickBytes, decimal, fieldThen, recordOf, newOn, newPos, newRef, newFirst, newSecond, newAlt, writtenLine}
+use Rattle.normal.specs.Spelled.{formOf, formSpelled}
+use Rattle.normal.specs.Written.{decimal, fieldThen, newOn, newPos, newRef, newFirst, newSecond, newAlt, writtenLine}
 use Rattle.normal.proofs.AltLaws.{one-first, two-first, two-second}
 use Rattle.normal.proofs.FieldThenLaws.{line-record}
 use Rattle.normal.proofs.NewAlleles.{two-count}
@@ -49,19 +50,19 @@ bases-letters (b ∷ a) t =
     let k = bases-letters a (s .1) in
     cc
 
-pub alts-same : (t : Bool) {a b x y : List ℕ} → a ≡ x → (T t → b ≡ y) → pickAlts t (a ∷ b ∷ []) (a ∷ []) ≡ pickAlts t (x ∷ y ∷ []) (x ∷ [])
+pub alts-same : (t : Bool) {a b x y : List ℕ} → a ≡ x → (T t → b ≡ y) → pick t (a ∷ b ∷ []) (a ∷ []) ≡ pick t (x ∷ y ∷ []) (x ∷ [])
 alts-same true h k = let j = k tt in cc
 alts-same false h k = cc
 
-alts-first : (t : Bool) (a b x y : List ℕ) → pickAlts t (a ∷ b ∷ []) (a ∷ []) ≡ pickAlts t (x ∷ y ∷ []) (x ∷ []) → a ≡ x
+alts-first : (t : Bool) (a b x y : List ℕ) → pick t (a ∷ b ∷ []) (a ∷ []) ≡ pick t (x ∷ y ∷ []) (x ∷ []) → a ≡ x
 alts-first true a b x y e = cc
 alts-first false a b x y e = cc
 
-alts-second : (t : Bool) (a b x y : List ℕ) → T t → pickAlts t (a ∷ b ∷ []) (a ∷ []) ≡ pickAlts t (x ∷ y ∷ []) (x ∷ []) → b ≡ y
+alts-second : (t : Bool) (a b x y : List ℕ) → T t → pick t (a ∷ b ∷ []) (a ∷ []) ≡ pick t (x ∷ y ∷ []) (x ∷ []) → b ≡ y
 alts-second true a b x y u e = cc
 alts-second false a b x y u e = absurd u
 
-alt-same : (t : Bool) (a b x y : List ℕ) → a ≡ x → (T t → b ≡ y) → pickBytes t (a ++ (COMMA ∷ b)) a ≡ pickBytes t (x ++ (COMMA ∷ y)) x
+alt-same : (t : Bool) (a b x y : List ℕ) → a ≡ x → (T t → b ≡ y) → pick t (a ++ (COMMA ∷ b)) a ≡ pick t (x ++ (COMMA ∷ y)) x
 alt-same true a b x y h k = let j = k tt in cc
 alt-same false a b x y h k = h
 
@@ -88,14 +89,14 @@ module _ (reference l : List ℕ) (good : T (allLetters? reference)) (one : With
   alt-first : firstAlt (newAlt reference l) ≡ newFirst reference l
   alt-first = go (twoAlts? (field 4 l))
     where
-      go : (t : Bool) → firstAlt (pickBytes t (newFirst reference l ++ (COMMA ∷ newSecond reference l)) (newFirst reference l)) ≡ newFirst reference l
+      go : (t : Bool) → firstAlt (pick t (newFirst reference l ++ (COMMA ∷ newSecond reference l)) (newFirst reference l)) ≡ newFirst reference l
       go true = two-first (newFirst reference l) (no-comma reference l good one line) (newSecond reference l)
       go false = one-first (newFirst reference l) (no-comma reference l good one line)
 
   alt-second : T (twoAlts? (field 4 l)) → secondAlt (newAlt reference l) ≡ newSecond reference l
   alt-second two = go (twoAlts? (field 4 l)) two
     where
-      go : (t : Bool) → T t → secondAlt (pickBytes t (newFirst reference l ++ (COMMA ∷ newSecond reference l)) (newFirst reference l)) ≡ newSecond reference l
+      go : (t : Bool) → T t → secondAlt (pick t (newFirst reference l ++ (COMMA ∷ newSecond reference l)) (newFirst reference l)) ≡ newSecond reference l
       go true u = two-second (newFirst reference l) (no-comma reference l good one line) (newSecond reference l)
       go false u = absurd u
 
@@ -118,7 +119,7 @@ module _ (reference l : List ℕ) (good : T (allLetters? reference)) (one : With
         let second : T (eqb (altCount (field 4 l)) 2) → basesOf (bytesOf m (entryOf m 0 .second)) ≡ basesOf (newSecond reference l) =
         λ t. let two : T (twoAlts? (field 4 l)) = rw (two-count (field 4 l)) at t in
         ap basesOf (second-is reference m good written-free written (rw two-written two) ∙ ap secondAlt (written-4 reference l good one line) ∙ alt-second two) in
-        same-form same-start ref (ap (λ (n : ℕ). pickAlts (eqb n 2) (basesOf (bytesOf m (entryOf m 0 .first)) ∷ basesOf (bytesOf m (entryOf m 0 .second)) ∷ []) (basesOf (bytesOf m (entryOf m 0 .first)) ∷ [])) (written-count reference l good one line) ∙ alts-same (eqb (altCount (field 4 l)) 2) first second)
+        same-form same-start ref (ap (λ (n : ℕ). pick (eqb n 2) (basesOf (bytesOf m (entryOf m 0 .first)) ∷ basesOf (bytesOf m (entryOf m 0 .second)) ∷ []) (basesOf (bytesOf m (entryOf m 0 .first)) ∷ [])) (written-count reference l good one line) ∙ alts-same (eqb (altCount (field 4 l)) 2) first second)
 
     form-again : formSpelled reference m (altCount (field 4 m)) (newOn reference m) ≡ formSpelled reference l (altCount (field 4 l)) (newOn reference l)
     form-again =
@@ -133,9 +134,9 @@ module _ (reference l : List ℕ) (good : T (allLetters? reference)) (one : With
     abbrev two : Bool
     two = eqb (altCount (field 4 l)) 2
 
-    alts-again : pickAlts two (basesOf (newFirst reference m) ∷ basesOf (newSecond reference m) ∷ []) (basesOf (newFirst reference m) ∷ []) ≡ pickAlts two (basesOf (newFirst reference l) ∷ basesOf (newSecond reference l) ∷ []) (basesOf (newFirst reference l) ∷ [])
+    alts-again : pick two (basesOf (newFirst reference m) ∷ basesOf (newSecond reference m) ∷ []) (basesOf (newFirst reference m) ∷ []) ≡ pick two (basesOf (newFirst reference l) ∷ basesOf (newSecond reference l) ∷ []) (basesOf (newFirst reference l) ∷ [])
     alts-again =
-        ap (λ (n : ℕ). pickAlts (eqb n 2) (basesOf (newFirst reference m) ∷ basesOf (newSecond reference m) ∷ []) (basesOf (newFirst reference m) ∷ [])) (sym (written-count reference l good one line))
+        ap (λ (n : ℕ). pick (eqb n 2) (basesOf (newFirst reference m) ∷ basesOf (newSecond reference m) ∷ []) (basesOf (newFirst reference m) ∷ [])) (sym (written-count reference l good one line))
         ∙ ap (λ (f : Form). f .alts) form-again
 
     ref-again : newRef reference m ≡ newRef reference l
@@ -155,7 +156,7 @@ module _ (reference l : List ℕ) (good : T (allLetters? reference)) (one : With
 
     alt-again : newAlt reference m ≡ newAlt reference l
     alt-again =
-        ap (λ (t : Bool). pickBytes t (newFirst reference m ++ (COMMA ∷ newSecond reference m)) (newFirst reference m)) two-written
+        ap (λ (t : Bool). pick t (newFirst reference m ++ (COMMA ∷ newSecond reference m)) (newFirst reference m)) two-written
         ∙ alt-same (twoAlts? (field 4 l)) (newFirst reference m) (newSecond reference m) (newFirst reference l) (newSecond reference l) first-again second-again
 
     pub written-again : writtenLine reference m ≡ m

@@ -6,34 +6,33 @@
 --     written-forms            reading the written list gives the normal forms in order
 -- Assumes nothing.
 use mathlib.Core.Bool.{Bool, true, false}
-use mathlib.Core.List.{List, [], _∷_, _++_, map}
-use mathlib.Core.Path.{_≡_, refl, sym, ap, subst, _∙_}
-use Prim.Native.Nat.{ℕ, zero, suc, _+_, _-_, _≤_, _<_}
+use mathlib.Core.List.{List, [], _∷_, map}
+use mathlib.Core.Path.{_≡_, refl, sym, ap, _∙_}
+use Prim.Native.Nat.{ℕ, _+_, _-_, _≤_, _<_}
 use native.Mathlib.Omega.{arith}
 use lib.Dec.{T, eqb, ltb, lit<}
 use lib.ListN.{length, take, drop}
 use lib.Seq.{take-at, drop-append-add, drop-drop}
-use Rattle.bases.specs.Letter.{pick, basesOf}
+use Rattle.bases.specs.Letter.{basesOf}
+use Rattle.bases.specs.Pick.{pick}
 use Rattle.bases.specs.Reference.{isReference?}
 use Rattle.bases.proofs.PartLaws.{part-part}
-use Rattle.vcf.specs.declared.entry.Entry.{Entry}
 use Rattle.vcf.specs.Allele.{altCount}
 use Rattle.vcf.specs.Bytes.{LF, COMMA, until}
-use Rattle.vcf.specs.Entry.{part, bytesOf, entryOf, recordsAt, entriesFrom, entriesOf}
+use Rattle.vcf.specs.Entry.{bytesOf, entryOf, recordsAt, entriesFrom, entriesOf}
 use Rattle.vcf.specs.Field.{field, fieldAt}
-use Rattle.vcf.specs.List.{pickLines, linesOf, judgeText}
+use Rattle.vcf.specs.List.{linesOf, judgeText}
 use Rattle.vcf.specs.Record.{posOn}
-use Rattle.vcf.proofs.RecordLineLaws.{RecordLine, record-line}
+use Rattle.vcf.proofs.RecordLineLaws.{record-line}
 use Rattle.normal.specs.Form.{Form, NormalForm}
 use Rattle.normal.specs.Cut.{normalOf}
-use Rattle.normal.specs.Spelled.{pickPart, pickAlts, formOf, Within, Stands, formSpelled}
+use Rattle.normal.specs.Spelled.{formOf, Within, Stands, formSpelled}
 use Rattle.normal.specs.Lines.{All}
 use Rattle.normal.specs.Written.{newOn, newPos, writtenLine, putLine, writtenLines, textOf, writtenText}
 use Rattle.normal.proofs.HeaderLaws.{recordsOf}
 use Rattle.normal.proofs.NormalEntry.{normal-entry-form}
 use Rattle.normal.proofs.RecordEntryLaws.{line-stands, line-normal}
 use Rattle.normal.proofs.TextLaws.{all-map}
-use Rattle.normal.proofs.WithoutLaws.{Without}
 use Rattle.normal.proofs.WrittenAgain.{alts-same, same-form, written-form}
 use Rattle.normal.proofs.WrittenLine.{written-pos}
 use Rattle.normal.proofs.WrittenList.{Read, Wrote, record-part, record-lines, all-read, all-wrote, written-accepted, written-lines}
@@ -54,7 +53,7 @@ module _ (t : List ℕ) (a : ℕ) (l : List ℕ) (there : take (length l) (drop 
       first : basesOf (bytesOf t (entryOf l a .first)) ≡ basesOf (bytesOf l (entryOf l 0 .first))
       first = ap basesOf (bytes-in (fieldAt 4 l) (a + fieldAt 4 l) (0 + fieldAt 4 l) (until COMMA (field 4 l)) refl (omega arith) (omega (arith, st .first .1)))
 
-      second : (u : Bool) → Within l (pickPart u (entryOf l 0 .second) (entryOf l 0 .first)) → T u → basesOf (bytesOf t (entryOf l a .second)) ≡ basesOf (bytesOf l (entryOf l 0 .second))
+      second : (u : Bool) → Within l (pick u (entryOf l 0 .second) (entryOf l 0 .first)) → T u → basesOf (bytesOf t (entryOf l a .second)) ≡ basesOf (bytesOf l (entryOf l 0 .second))
       second true w v =
           ap basesOf (bytes-in (fieldAt 4 l + until COMMA (field 4 l) + 1) (entryOf l a .second .at) (entryOf l 0 .second .at) (entryOf l 0 .second .len) (omega arith) (omega arith) (omega (arith, w .1)))
       second false w v = absurd v
@@ -76,7 +75,7 @@ module _ (reference : List ℕ) where
   -- A record read, put among records by new POS: behind each whose new POS is not above its own.
   unfoldable pub putRead : List ℕ → List (List ℕ) → List (List ℕ)
   putRead l [] = l ∷ []
-  putRead l (m ∷ ms) = let more = putRead l ms in pickLines (ltb (newPos reference l) (newPos reference m)) (l ∷ m ∷ ms) (m ∷ more)
+  putRead l (m ∷ ms) = let more = putRead l ms in pick (ltb (newPos reference l) (newPos reference m)) (l ∷ m ∷ ms) (m ∷ more)
 
   -- The records read, by new POS, equal POS in the order read.
   unfoldable pub inOrder : List (List ℕ) → List (List ℕ) → List (List ℕ)
@@ -88,7 +87,7 @@ module _ (reference : List ℕ) where
   put-read-all P l [] h k = (h, tt)
   put-read-all P l (m ∷ ms) h k = go (ltb (newPos reference l) (newPos reference m)) (put-read-all P l ms h (k .1))
     where
-      go : (u : Bool) → All P (putRead l ms) → All P (pickLines u (l ∷ m ∷ ms) (m ∷ putRead l ms))
+      go : (u : Bool) → All P (putRead l ms) → All P (pick u (l ∷ m ∷ ms) (m ∷ putRead l ms))
       go true r = (h, k)
       go false r = (k .0, r)
 
@@ -107,8 +106,8 @@ module _ (reference : List ℕ) where
   put-map l (m ∷ ms) h k = rw (h, k .0) (go (ltb (newPos reference l) (newPos reference m)) (put-map l ms h (k .1)))
     where
       go : (u : Bool) → putLine (writtenLine reference l) (map (writtenLine reference) ms) ≡ map (writtenLine reference) (putRead l ms)
-          → pickLines u (writtenLine reference l ∷ writtenLine reference m ∷ map (writtenLine reference) ms) (writtenLine reference m ∷ putLine (writtenLine reference l) (map (writtenLine reference) ms))
-          ≡ map (writtenLine reference) (pickLines u (l ∷ m ∷ ms) (m ∷ putRead l ms))
+          → pick u (writtenLine reference l ∷ writtenLine reference m ∷ map (writtenLine reference) ms) (writtenLine reference m ∷ putLine (writtenLine reference l) (map (writtenLine reference) ms))
+          ≡ map (writtenLine reference) (pick u (l ∷ m ∷ ms) (m ∷ putRead l ms))
       go true r = refl
       go false r = ap (λ (z : List (List ℕ)). writtenLine reference m ∷ z) r
 

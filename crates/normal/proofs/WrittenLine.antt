@@ -4,34 +4,35 @@
 --     written-pos                   its POS is the new one
 --     written-short                 it is not longer than the line read
 -- Assumes nothing.
-use mathlib.Core.Bool.{Bool, true, false, _&&_}
-use mathlib.Core.List.{List, [], _∷_, _++_}
+use mathlib.Core.Bool.{Bool, true, false}
+use mathlib.Core.List.{List, _∷_, _++_}
 use mathlib.Core.Logic.{⊎-elim}
 use mathlib.Core.Path.{_≡_, refl, sym, ap, subst, _∙_}
-use Prim.Native.Nat.{ℕ, zero, suc, _+_, _-_, _≤_, _<_}
+use Prim.Native.Nat.{ℕ, suc, _+_, _-_, _≤_, _<_}
 use native.Mathlib.Omega.{arith}
 use lib.Dec.{T, eqb, ltb→lt, lit<}
-use lib.ListN.{length, take, drop, length-append, length-drop}
+use lib.ListN.{length, drop, length-append, length-drop}
 use lib.Seq.{length-take-le}
 use Rattle.bases.specs.Letter.{allLetters?, letterOf, among?, isLetter?}
+use Rattle.bases.specs.Pick.{pick}
 use Rattle.bases.specs.Reference.{longestReference}
-use Rattle.vcf.specs.Allele.{firstAlt, twoAlts?, secondAlt}
+use Rattle.vcf.specs.Allele.{firstAlt, twoAlts?}
 use Rattle.vcf.specs.Bytes.{LF, TAB, COMMA, until}
 use Rattle.vcf.specs.Field.{field, fieldAt, tenFields?}
-use Rattle.vcf.specs.Pos.{digit?, largestPos, readPos}
+use Rattle.vcf.specs.Pos.{digit?, readPos}
 use Rattle.vcf.specs.Record.{posOn}
 use Rattle.vcf.proofs.BytesLaws.{until-le}
 use Rattle.vcf.proofs.RecordLineLaws.{RecordLine}
-use Rattle.normal.specs.Written.{pickBytes, decimal, newOn, newPos, newRef, newFirst, newSecond, newAlt, writtenLine}
+use Rattle.normal.specs.Written.{decimal, newPos, newRef, newFirst, newSecond, newAlt, writtenLine}
 use Rattle.normal.proofs.DecimalLaws.{decimal-digits, decimal-pos, decimal-some, decimal-read, decimal-le, decimal-add}
 use Rattle.normal.proofs.FieldThenLaws.{line-record, field-0, field-1, field-2, field-3, field-4, field-more, rest-5, ten-fields, field-some, record-length}
 use Rattle.normal.proofs.NewAlleles.{NewAlleles, new-alleles}
-use Rattle.normal.proofs.RecordEntryLaws.{Allele, allele, ref-letters, first-letters, second-letters}
+use Rattle.normal.proofs.RecordEntryLaws.{allele, ref-letters, first-letters, second-letters}
 use Rattle.normal.proofs.RunLaws.{le-or-lt}
 use Rattle.normal.proofs.WithoutLaws.{Without, without-cons, without-append, without-until, without-letters, without-digits}
 
 -- ALT holds only letters, and a comma between two.
-alt-without : (x : ℕ) (t : Bool) (a b : List ℕ) → eqb COMMA x ≡ false → Without x a → Without x b → Without x (pickBytes t (a ++ (COMMA ∷ b)) a)
+alt-without : (x : ℕ) (t : Bool) (a b : List ℕ) → eqb COMMA x ≡ false → Without x a → Without x b → Without x (pick t (a ++ (COMMA ∷ b)) a)
 alt-without x true a b e h k = without-append x a (COMMA ∷ b) h (without-cons x COMMA b e k)
 alt-without x false a b e h k = h
 
@@ -119,7 +120,7 @@ module _ (reference l : List ℕ) (good : T (allLetters? reference)) (one : With
   alt-some : 1 ≤ length alt
   alt-some = go (twoAlts? (field 4 l))
     where
-      go : (t : Bool) → 1 ≤ length (pickBytes t (newFirst reference l ++ (COMMA ∷ newSecond reference l)) (newFirst reference l))
+      go : (t : Bool) → 1 ≤ length (pick t (newFirst reference l ++ (COMMA ∷ newSecond reference l)) (newFirst reference l))
       go true = omega (arith, length-append (newFirst reference l) (COMMA ∷ newSecond reference l), new .first-some)
       go false = new .first-some
 
@@ -151,7 +152,7 @@ module _ (reference l : List ℕ) (good : T (allLetters? reference)) (one : With
       firsts : length (firstAlt (field 4 l)) ≡ until COMMA (field 4 l)
       firsts = length-take-le (until COMMA (field 4 l)) (field 4 l) (until-le COMMA (field 4 l))
 
-      go : (t : Bool) → (T t → T (twoAlts? (field 4 l))) → length (pickBytes t (newFirst reference l ++ (COMMA ∷ newSecond reference l)) (newFirst reference l)) ≤ length (field 4 l)
+      go : (t : Bool) → (T t → T (twoAlts? (field 4 l))) → length (pick t (newFirst reference l ++ (COMMA ∷ newSecond reference l)) (newFirst reference l)) ≤ length (field 4 l)
       go true h =
           omega (
             arith,

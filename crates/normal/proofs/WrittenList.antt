@@ -6,10 +6,10 @@
 --     written-accepted         it is an accepted list of the same reference and name
 --     written-twice            writing it again gives it unchanged
 -- Assumes nothing.
-use mathlib.Core.Bool.{Bool, true, false, not, _||_}
+use mathlib.Core.Bool.{false, not}
 use mathlib.Core.List.{List, [], _∷_, _++_}
 use mathlib.Core.Path.{_≡_, refl, sym, ap, subst, _∙_}
-use Prim.Native.Nat.{ℕ, zero, suc, _+_, _-_, _≤_, _<_}
+use Prim.Native.Nat.{ℕ, _+_, _-_, _≤_, _<_}
 use native.Mathlib.Omega.{arith}
 use borrow.Author.Tests.{eqb-true, not-false, eq-eqb, le-ltb}
 use lib.Dec.{T, eqb, ltb, lit<}
@@ -18,8 +18,8 @@ use lib.Seq.{take-at, drop-at}
 use Rattle.bases.specs.Reference.{isReference?}
 use Rattle.bases.proofs.TestLaws.{neither}
 use Rattle.vcf.specs.Bytes.{LF}
-use Rattle.vcf.specs.Entry.{headerBytes, recordsAt}
-use Rattle.vcf.specs.List.{linesOf, longestText, textWrong?, above, judgeLines, judgeText}
+use Rattle.vcf.specs.Entry.{recordsAt}
+use Rattle.vcf.specs.List.{linesOf, longestText, textWrong?, above, judgeText}
 use Rattle.vcf.specs.Record.{mostRecords, posOn, recordRows}
 use Rattle.vcf.proofs.AcceptedLaws.{Records, RecordsFrom, accepted-records, accepted-few-lines}
 use Rattle.vcf.proofs.JudgeLaws.{accepted-zero, text-fits}

@@ -3,27 +3,28 @@
 --     new-two, written-count     it has as many alleles as the old
 --     written-rows       no row holds on the written line, behind fewer than 512 records, the last not above the new POS
 -- Assumes nothing.
-use mathlib.Core.Bool.{Bool, true, false, not, _&&_, _||_}
+use mathlib.Core.Bool.{Bool, true, false, _&&_}
 use mathlib.Core.List.{List, [], _∷_, _++_}
-use mathlib.Core.Path.{_≡_, refl, sym, ap, subst, _∙_}
+use mathlib.Core.Path.{_≡_, refl, sym, ap, _∙_}
 use Prim.Native.Nat.{ℕ, zero, suc, _+_, _-_, _≤_, _<_}
 use native.Mathlib.Omega.{arith}
 use borrow.Author.Tests.{ltb-false, le-ltb, le-leb, lt-leb, ne-eqb}
 use lib.Dec.{T, leb, lit<}
-use lib.ListN.{length, take, drop, length-append}
-use Rattle.bases.specs.Letter.{pick, allLetters?, letterOf, among?, basesOf}
+use lib.ListN.{length, take, drop}
+use Rattle.bases.specs.Letter.{allLetters?, letterOf, among?, basesOf}
+use Rattle.bases.specs.Pick.{pick}
 use Rattle.bases.specs.Reference.{isReference?, longestReference}
 use Rattle.bases.specs.Same.{agree?, sameBases?}
 use Rattle.bases.proofs.ReferenceLaws.{reference-iff}
 use Rattle.bases.proofs.SameLaws.{same-iff}
 use Rattle.bases.proofs.TestLaws.{is-true, both}
 use Rattle.vcf.specs.Allele.{isAllele?, altCount, twoAlts?, altsWrong?}
-use Rattle.vcf.specs.Bytes.{LF, TAB, COMMA, hash, begins?}
-use Rattle.vcf.specs.Field.{field, fieldAt, tenFields?}
-use Rattle.vcf.specs.Record.{longestLine, mostRecords, posOn, genotypeWrong?, offReference?, recordRows}
+use Rattle.vcf.specs.Bytes.{LF, COMMA, hash, begins?}
+use Rattle.vcf.specs.Field.{field, tenFields?}
+use Rattle.vcf.specs.Record.{longestLine, mostRecords, offReference?, recordRows}
 use Rattle.vcf.proofs.RecordLineLaws.{RecordLine, record-line}
 use Rattle.vcf.proofs.RowLaws.{NoneHolds}
-use Rattle.normal.specs.Written.{pickBytes, newOn, newPos, newRef, newFirst, newSecond, newAlt, writtenLine}
+use Rattle.normal.specs.Written.{newOn, newPos, newRef, newFirst, newSecond, newAlt, writtenLine}
 use Rattle.normal.proofs.AltLaws.{one-not-two, two-two, alts-one, alts-two}
 use Rattle.normal.proofs.FieldThenLaws.{line-record, field-some}
 use Rattle.normal.proofs.NewAlleles.{NewAlleles, new-alleles}
@@ -53,14 +54,14 @@ module _ (reference l : List ℕ) (good : T (allLetters? reference)) (one : With
   pub new-two : twoAlts? (newAlt reference l) ≡ twoAlts? (field 4 l)
   new-two = go (twoAlts? (field 4 l))
     where
-      go : (t : Bool) → twoAlts? (pickBytes t (newFirst reference l ++ (COMMA ∷ newSecond reference l)) (newFirst reference l)) ≡ t
+      go : (t : Bool) → twoAlts? (pick t (newFirst reference l ++ (COMMA ∷ newSecond reference l)) (newFirst reference l)) ≡ t
       go true = two-two (newFirst reference l) no-comma (newSecond reference l)
       go false = one-not-two (newFirst reference l) no-comma
 
   pub new-alts : altsWrong? (newRef reference l) (newAlt reference l) ≡ false
   new-alts = go (twoAlts? (field 4 l)) (λ t. t)
     where
-      go : (t : Bool) → (T t → T (twoAlts? (field 4 l))) → altsWrong? (newRef reference l) (pickBytes t (newFirst reference l ++ (COMMA ∷ newSecond reference l)) (newFirst reference l)) ≡ false
+      go : (t : Bool) → (T t → T (twoAlts? (field 4 l))) → altsWrong? (newRef reference l) (pick t (newFirst reference l ++ (COMMA ∷ newSecond reference l)) (newFirst reference l)) ≡ false
       go true h = alts-two (newFirst reference l) no-comma (newSecond reference l) (newRef reference l) (new .first) (new .second (h tt)) (new .two (h tt))
       go false h = alts-one (newFirst reference l) no-comma (newRef reference l) (new .first)
 

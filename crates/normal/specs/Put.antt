@@ -4,15 +4,16 @@ use mathlib.Core.List.{List, [], _∷_, _++_}
 use Prim.Native.Nat.{ℕ, _+_, _-_, _/_, _%_}
 use lib.Dec.{leb}
 use lib.ListN.{take, drop}
+use Rattle.bases.specs.Pick.{pick}
 use Rattle.vcf.specs.Bytes.{LF, TAB}
 use Rattle.vcf.specs.Entry.{part, bytesOf}
 use Rattle.vcf.specs.Field.{fieldEnd, fieldAt}
 use Rattle.normal.specs.declared.entry.NormalEntry.{NormalEntry}
-use Rattle.normal.specs.Written.{pickBytes, decimal, altsSpelled}
+use Rattle.normal.specs.Written.{decimal, altsSpelled}
 
 -- The digit of a number that counts so many, where the number is not below that.
 abbrev pub digitAt : ℕ → ℕ → List ℕ
-digitAt n unit = pickBytes (leb unit n) ((48 + n / unit % 10) ∷ []) []
+digitAt n unit = pick (leb unit n) ((48 + n / unit % 10) ∷ []) []
 
 -- A line up to its REF, with another POS.
 abbrev pub frontWith : List ℕ → ℕ → List ℕ

@@ -1,11 +1,11 @@
 -- The normal form of an entry of a list, as numbers: its alleles as runs of the reference and parts of the list's text.
 -- Assumes nothing: these are definitions.
-use mathlib.Core.Bool.{Bool, true, false}
 use mathlib.Core.List.{List, [], _∷_, _++_}
 use Prim.Native.Nat.{ℕ, _+_, _-_, _≤_}
 use lib.Dec.{eqb}
 use lib.ListN.{length, take, drop}
 use Rattle.bases.specs.Letter.{basesOf}
+use Rattle.bases.specs.Pick.{pick}
 use Rattle.bases.specs.Place.{placeOf}
 use Rattle.vcf.specs.declared.entry.Part.{Part}
 use Rattle.vcf.specs.declared.entry.Entry.{Entry}
@@ -41,21 +41,12 @@ spelled c p =
       own = part (p .at + c .front) (p .len - (c .back + c .front));
     }
 
--- The first of two where there are two ALTs, else the second.
-abbrev pub pickPart : Bool → Part → Part → Part
-pickPart true p q = p
-pickPart false p q = q
-
-abbrev pub pickAlts : Bool → List (List ℕ) → List (List ℕ) → List (List ℕ)
-pickAlts true x y = x
-pickAlts false x y = y
-
 -- The place where an entry starts; its last ALT.
 abbrev pub startOf : Entry → ℕ
 startOf e = placeOf (e .pos) .0
 
 abbrev pub lastAlt : Entry → Part
-lastAlt e = pickPart (eqb (e .alts) 2) (e .second) (e .first)
+lastAlt e = pick (eqb (e .alts) 2) (e .second) (e .first)
 
 -- What an entry spells: REF off the reference, the ALTs off the text.
 abbrev pub formOf : List ℕ → List ℕ → Entry → Form
@@ -64,7 +55,7 @@ formOf reference text e =
       start = startOf e;
       ref = basesOf (bytesOf reference (part (startOf e) (e .reference .len)));
       alts =
-          pickAlts (eqb (e .alts) 2)
+          pick (eqb (e .alts) 2)
           (basesOf (bytesOf text (e .first)) ∷ basesOf (bytesOf text (e .second)) ∷ [])
           (basesOf (bytesOf text (e .first)) ∷ []);
     }
@@ -107,7 +98,7 @@ formSpelled reference text alts n =
       start = n .start .0;
       ref = basesOf (bytesOf reference (part (n .start .0) (n .span)));
       alts =
-          pickAlts (eqb alts 2)
+          pick (eqb alts 2)
           (basesOf (bytesSpelled reference text (n .start .0) (n .first)) ∷ basesOf (bytesSpelled reference text (n .start .0) (n .second)) ∷ [])
           (basesOf (bytesSpelled reference text (n .start .0) (n .first)) ∷ []);
     }

@@ -13,11 +13,12 @@ use native.Mathlib.Omega.{arith}
 use borrow.Author.Tests.{eqb-true, le-ltb}
 use lib.Dec.{eqb}
 use lib.ListN.{length}
+use Rattle.bases.specs.Pick.{pick}
 use Rattle.bases.specs.Put.{put}
 use Rattle.bases.proofs.TestLaws.{of-true}
 use Rattle.card.specs.declared.answer.Answer.{Answer}
 use Rattle.card.specs.declared.refusal.Refusal.{Refusal}
-use Rattle.card.specs.Answer.{answer, pickAnswer, refusedAnswer, answerOf}
+use Rattle.card.specs.Answer.{answer, refusedAnswer, answerOf}
 use Rattle.card.specs.Normal.{normalRefusal, written, normalAfter}
 use Rattle.card.specs.Refusal.{listChecks}
 use Rattle.card.proofs.ListsLaws.{list-read}
@@ -40,7 +41,7 @@ normalised-open file text e = rw (file-open file (listChecks (basesOfFile file) 
 answer-number : (r : Refusal) (v : ℕ) → answerOf r v .number ≡ r .number
 answer-number r v = go (eqb (r .number) 0) refl
   where
-    go : (t : Bool) → eqb (r .number) 0 ≡ t → pickAnswer t (answer 0 0 0 v) (refusedAnswer r) .number ≡ r .number
+    go : (t : Bool) → eqb (r .number) 0 ≡ t → pick t (answer 0 0 0 v) (refusedAnswer r) .number ≡ r .number
     go true e = sym (eqb-true (r .number) 0 e)
     go false e = refl
 

@@ -16,11 +16,12 @@ use borrow.Author.Tests.{eq-eqb}
 use lib.Dec.{eqb}
 use lib.ListN.{length, take, drop, length-append, length-replicate}
 use lib.Seq.{take-append-seam}
+use Rattle.bases.specs.Pick.{pick}
 use Rattle.bases.specs.Put.{put}
 use Rattle.card.specs.declared.all.AllMarked.{AllMarked}
 use Rattle.card.specs.declared.answer.Answer.{Answer}
 use Rattle.card.specs.declared.refusal.Refusal.{Refusal}
-use Rattle.card.specs.All.{allMarked, pickAll, allRefusal, allAnswered, emptyPlan, allPlan, allBytes}
+use Rattle.card.specs.All.{allMarked, allRefusal, allAnswered, emptyPlan, allPlan, allBytes}
 use Rattle.card.specs.Answer.{answer, refusedAnswer}
 use Rattle.card.specs.Refusal.{firstRefusal, leastRoom, listsChecks}
 use Rattle.card.proofs.ClusterMarks.{marks-all}
@@ -80,7 +81,7 @@ module _ (file first second before : List ℕ) (long : length before ≡ leastRo
   same e = rw long (sym (file-past file (listsChecks r chromName first second false) e))
 
   -- the answer's three numbers, whether it is a refusal or not
-  three : (t : Bool) (a : Answer) (n s : ℕ) (q : Refusal) → a ≡ refusedAnswer q → Tells (pickAll t (allMarked a n s) (allMarked a 0 0)) q
+  three : (t : Bool) (a : Answer) (n s : ℕ) (q : Refusal) → a ≡ refusedAnswer q → Tells (pick t (allMarked a n s) (allMarked a 0 0)) q
   three true a n s q e = record { same-number = ap (λ (x : Answer). x .number) e; same-list = ap (λ (x : Answer). x .list) e; same-line = ap (λ (x : Answer). x .line) e }
   three false a n s q e = record { same-number = ap (λ (x : Answer). x .number) e; same-list = ap (λ (x : Answer). x .list) e; same-line = ap (λ (x : Answer). x .line) e }
 

@@ -9,14 +9,14 @@ use Prim.Native.Nat.{ℕ, _+_, _≤_}
 use native.Mathlib.Omega.{arith}
 use borrow.Author.Needs.{needs}
 use lib.Dec.{eqb}
-use Rattle.bases.specs.Letter.{pick}
+use Rattle.bases.specs.Pick.{pick}
 use Rattle.card.specs.declared.refusal.Refusal.{Refusal}
-use Rattle.card.specs.Refusal.{Check, refusal, pickRefusal, firstRefusal, listCheck, listChecks, listsChecks}
+use Rattle.card.specs.Refusal.{Check, refusal, firstRefusal, listCheck, listChecks, listsChecks}
 use Rattle.donors.specs.Apart.{All}
 use Rattle.vcf.specs.declared.list.Fault.{Fault}
 use Rattle.vcf.specs.declared.list.Stage.{Stage}
 use Rattle.vcf.specs.Header.{headerWrong?}
-use Rattle.vcf.specs.List.{linesOf, textWrong?, above, nextStage, pickRows, lineRows, fault, pickFault, judgeLines, judgeText}
+use Rattle.vcf.specs.List.{linesOf, textWrong?, above, nextStage, lineRows, fault, judgeLines, judgeText}
 use Rattle.vcf.specs.Record.{tooLong?, recordRows}
 use Rattle.vcf.specs.Row.{Row, row, firstRow}
 use Rattle.vcf.proofs.JudgeLaws.{judge-line-fits}
@@ -40,7 +40,7 @@ module _ (reference name : List ℕ) where
   line-rows : (s : Stage) (n : ℕ) (l : List ℕ) → All (λ (r : Row). r .number ≤ largestRow) (lineRows reference name s n l)
   line-rows s n l = go (s .below)
     where
-      go : (t : Bool) → All (λ (r : Row). r .number ≤ largestRow) (pickRows t (recordRows reference name (s .records) (s .last) l) (row 4 (tooLong? l) ∷ row 5 (headerWrong? n l) ∷ []))
+      go : (t : Bool) → All (λ (r : Row). r .number ≤ largestRow) (pick t (recordRows reference name (s .records) (s .last) l) (row 4 (tooLong? l) ∷ row 5 (headerWrong? n l) ∷ []))
       go true = search needs
       go false = search needs
 
@@ -48,7 +48,7 @@ module _ (reference name : List ℕ) where
   unfolding judgeLines
   lines-number s n [] = go (s .below)
     where
-      go : (t : Bool) → pickFault t (fault 0 0) (fault 5 n) .number ≤ largestRow
+      go : (t : Bool) → pick t (fault 0 0) (fault 5 n) .number ≤ largestRow
       go true = omega arith
       go false = omega arith
   lines-number s n (l ∷ ls) = go (eqb (firstRow (lineRows reference name s n l)) 0) (lines-number (nextStage s l) (n + 1) ls)
@@ -56,7 +56,7 @@ module _ (reference name : List ℕ) where
       rest : Fault
       rest = judgeLines reference name (nextStage s l) (n + 1) ls
 
-      go : (t : Bool) → rest .number ≤ largestRow → pickFault t rest (fault (firstRow (lineRows reference name s n l)) n) .number ≤ largestRow
+      go : (t : Bool) → rest .number ≤ largestRow → pick t rest (fault (firstRow (lineRows reference name s n l)) n) .number ≤ largestRow
       go true h = h
       go false h = first-row (lineRows reference name s n l) (line-rows s n l)
 
@@ -64,7 +64,7 @@ module _ (reference name : List ℕ) where
   unfolding judgeText
   judge-number t = go (textWrong? t)
     where
-      go : (b : Bool) → pickFault b (fault 3 0) (judgeLines reference name above 1 (linesOf t)) .number ≤ largestRow
+      go : (b : Bool) → pick b (fault 3 0) (judgeLines reference name above 1 (linesOf t)) .number ≤ largestRow
       go true = omega arith
       go false = lines-number above 1 (linesOf t)
 
@@ -79,7 +79,7 @@ unfolding firstRefusal
 first-printable [] u = record { number = omega arith; list = omega arith; line = omega arith }
 first-printable (c ∷ cs) u = go (c .holds) (first-printable cs (u .1))
   where
-    go : (t : Bool) → Printable (firstRefusal cs) → Printable (pickRefusal t (c .refused) (firstRefusal cs))
+    go : (t : Bool) → Printable (firstRefusal cs) → Printable (pick t (c .refused) (firstRefusal cs))
     go true h = u .0
     go false h = h
 

@@ -5,14 +5,13 @@ use mathlib.Core.Bool.{false}
 use mathlib.Core.List.{List, _∷_}
 use Prim.Native.Nat.{ℕ}
 use lib.ListN.{length}
+use Rattle.bases.specs.Pick.{pick}
 use Rattle.card.specs.declared.all.AllMarked.{AllMarked}
 use Rattle.card.specs.declared.refusal.Refusal.{Refusal}
-use Rattle.card.specs.All.{allMarked, pickAll, allAnswered, emptyPlan, allPlan, allBytes}
+use Rattle.card.specs.All.{allMarked, allAnswered, emptyPlan, allPlan, allBytes}
 use Rattle.card.specs.Answer.{answer}
-use Rattle.card.specs.Plan.{pickPlan}
 use Rattle.card.specs.Refusal.{firstRefusal, leastRoom, listsChecks}
 use Rattle.clusters.specs.declared.plan.Cluster.{Cluster}
-use Rattle.donors.specs.Table.{pickList}
 use Rattle.files.specs.File.{chromName, endsInLf?, basesOfFile}
 use Rattle.told.specs.Told.{fileCheck}
 
@@ -24,14 +23,14 @@ module _ (file first second marks : List ℕ) where
   -- What marking both lists on the bases of the file answers, or refusal 1.
   abbrev pub filesAnswered : AllMarked
   filesAnswered =
-      pickAll (endsInLf? file)
+      pick (endsInLf? file)
       (allAnswered (basesOfFile file) chromName first second leastRoom (length marks))
       (allMarked (answer 1 0 0 0) 0 0)
 
   -- The plan that is written, or none.
   abbrev pub filesPlan : List Cluster
-  filesPlan = pickPlan (endsInLf? file) (allPlan (basesOfFile file) chromName first second emptyPlan marks) emptyPlan
+  filesPlan = pick (endsInLf? file) (allPlan (basesOfFile file) chromName first second emptyPlan marks) emptyPlan
 
   -- The lent marks afterwards.
   abbrev pub filesMarks : List ℕ
-  filesMarks = pickList (endsInLf? file) (allBytes (basesOfFile file) chromName first second emptyPlan marks) marks
+  filesMarks = pick (endsInLf? file) (allBytes (basesOfFile file) chromName first second emptyPlan marks) marks

@@ -5,11 +5,11 @@ use mathlib.Core.Bool.{not}
 use mathlib.Core.List.{List}
 use Prim.Native.Nat.{ℕ}
 use lib.Dec.{eqb}
+use Rattle.bases.specs.Pick.{pick}
 use Rattle.card.specs.declared.refusal.Refusal.{Refusal}
 use Rattle.card.specs.Refusal.{Check, refusal, check}
 use Rattle.files.specs.File.{endsInLf?}
 use Rattle.lines.specs.Lines.{refusedText}
-use Rattle.normal.specs.Written.{pickBytes}
 
 -- Row 1, of a reference file that does not end in LF.
 abbrev pub fileCheck : List ℕ → Check
@@ -17,4 +17,4 @@ fileCheck file = check (not (endsInLf? file)) (refusal 1 0 0)
 
 -- The text where nothing is turned away, else the line of the refusal.
 abbrev pub toldText : Refusal → List ℕ → List ℕ
-toldText r text = pickBytes (eqb (r .number) 0) text (refusedText (r .number) (r .list) (r .line))
+toldText r text = pick (eqb (r .number) 0) text (refusedText (r .number) (r .list) (r .line))

@@ -18,10 +18,11 @@ use borrow.Author.Tests.{leb-false, ltb-false}
 use lib.Dec.{T, not-T}
 use lib.ListN.{length, drop}
 use Rattle.bases.proofs.TestLaws.{of-false, both}
+use Rattle.bases.specs.Pick.{pick}
 use Rattle.vcf.specs.Entry.{lineAt, nextLine, headerBytes, recordsAt, entriesFrom, entriesOf, readable?, allReadable?, readableFrom?, skipLines, recordAt}
 use Rattle.vcf.specs.Field.{tenFields?}
 use Rattle.vcf.specs.Header.{headerLine?}
-use Rattle.vcf.specs.List.{linesOf, textWrong?, above, belowAt, nextStage, lineRows, fault, pickFault, judgeLines, judgeText}
+use Rattle.vcf.specs.List.{linesOf, textWrong?, above, belowAt, nextStage, lineRows, fault, judgeLines, judgeText}
 use Rattle.vcf.specs.Record.{mostRecords, posOn, genotypeWrong?, recordRows}
 use Rattle.vcf.specs.Row.{Row, firstRow}
 use Rattle.vcf.proofs.EntryLaws.{header-stop, header-more, skip-lines-zero, skip-lines-past, skip-lines-more, skip-lines-next}
@@ -95,7 +96,7 @@ module _ (reference name : List ℕ) where
   unfolding judgeText
   accepted-clear t e = go (textWrong? t) e
     where
-      go : (b : Bool) → pickFault b (fault 3 0) (judgeLines reference name above 1 (linesOf t)) .number ≡ 0 → Records 0 0 (linesOf (drop (recordsAt t) t))
+      go : (b : Bool) → pick b (fault 3 0) (judgeLines reference name above 1 (linesOf t)) .number ≡ 0 → Records 0 0 (linesOf (drop (recordsAt t) t))
       go true e = absurd (omega arith)
       go false e = rw zero-add at (above-records t (length t) 0 1 (omega arith) e)
 

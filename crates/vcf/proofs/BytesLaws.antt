@@ -13,7 +13,7 @@ use lib.Dec.{eqb}
 use lib.ListN.{length, getD, drop, drop-of-length-le}
 use lib.Seq.{drop-cons}
 use borrow.Author.Tests.{eq-eqb, ne-eqb}
-use Rattle.bases.specs.Letter.{pick}
+use Rattle.bases.specs.Pick.{pick}
 use Rattle.vcf.specs.Bytes.{until}
 
 until-at : (x : ℕ) (l : List ℕ) (i : ℕ) → i < length l → until x (drop i l) ≡ pick (eqb (getD l i 0) x) 0 (suc (until x (drop (i + 1) l)))

@@ -17,10 +17,11 @@ use borrow.Author.Tests.{ltb-false}
 use lib.Dec.{T, eqb, ltb}
 use lib.ListN.{length, getD}
 use Rattle.bases.proofs.TestLaws.{of-true, of-false, is-true, neither}
+use Rattle.bases.specs.Pick.{pick}
 use Rattle.vcf.specs.declared.list.Fault.{Fault}
 use Rattle.vcf.specs.declared.list.Stage.{Stage}
 use Rattle.vcf.specs.Bytes.{LF}
-use Rattle.vcf.specs.List.{onto, pickLines, linesOf, longestText, textWrong?, above, nextStage, lineRows, fault, pickFault, judgeLines, judgeText}
+use Rattle.vcf.specs.List.{onto, linesOf, longestText, textWrong?, above, nextStage, lineRows, fault, judgeLines, judgeText}
 use Rattle.vcf.specs.Row.{firstRow}
 use Rattle.vcf.proofs.StageLaws.{stageAt}
 use Rattle.vcf.proofs.ToldLaws.{ClearTo, OnLine, AtEnd, Told, on-line, at-end, nowhere, on-line-not-zero, told, told-only}
@@ -56,7 +57,7 @@ module _ (reference name t : List ℕ) where
       kind h z (at-end r) = by-end h r
       kind h z (nowhere r) = absurd (z (r .number))
 
-      to : (b : Bool) → textWrong? t ≡ b → k ≢ 0 → pickFault b (fault 3 0) (judgeLines reference name above 1 (linesOf t)) ≡ fault k n → Refused reference name t k n
+      to : (b : Bool) → textWrong? t ≡ b → k ≢ 0 → pick b (fault 3 0) (judgeLines reference name above 1 (linesOf t)) ≡ fault k n → Refused reference name t k n
       to true h z e = by-text (of-true h) (sym (ap (λ (f : Fault). f .number) e)) (sym (ap (λ (f : Fault). f .line) e))
       to false h z e = kind h z (told-as k n e)
 
@@ -75,7 +76,7 @@ module _ (reference name t : List ℕ) where
       kind k n h z (at-end r) = absurd (omega arith)
       kind k n h z (nowhere r) = record { fits = h; below = r .below; clear = r .clear }
 
-      to : (b : Bool) → textWrong? t ≡ b → pickFault b (fault 3 0) (judgeLines reference name above 1 (linesOf t)) .number ≡ 0 → Accepted reference name t
+      to : (b : Bool) → textWrong? t ≡ b → pick b (fault 3 0) (judgeLines reference name above 1 (linesOf t)) .number ≡ 0 → Accepted reference name t
       to true h e = absurd (omega arith)
       to false h e = kind _ _ h e (told reference name above 1 (linesOf t))
 
@@ -110,7 +111,7 @@ unfolding linesOf
 lines-few [] = omega arith
 lines-few (b ∷ bs) = go (eqb b LF) (linesOf bs) (lines-few bs)
   where
-    go : (x : Bool) (ls : List (List ℕ)) → length ls ≤ length bs → length (pickLines x ([] ∷ ls) (onto b ls)) ≤ suc (length bs)
+    go : (x : Bool) (ls : List (List ℕ)) → length ls ≤ length bs → length (pick x ([] ∷ ls) (onto b ls)) ≤ suc (length bs)
     go true ls h = omega arith
     go false [] h = omega arith
     go false (l ∷ ls) h = omega arith
@@ -119,7 +120,7 @@ lines-line : (reference name : List ℕ) (s : Stage) (n : ℕ) (ls : List (List 
 unfolding judgeLines
 lines-line reference name s n [] = go (s .below)
   where
-    go : (b : Bool) → pickFault b (fault 0 0) (fault 5 n) .line ≤ n + 0
+    go : (b : Bool) → pick b (fault 0 0) (fault 5 n) .line ≤ n + 0
     go true = omega arith
     go false = omega arith
 lines-line reference name s n (l ∷ ls) = go (eqb (firstRow (lineRows reference name s n l)) 0) (lines-line reference name (nextStage s l) (n + 1) ls)
@@ -127,7 +128,7 @@ lines-line reference name s n (l ∷ ls) = go (eqb (firstRow (lineRows reference
     rest : Fault
     rest = judgeLines reference name (nextStage s l) (n + 1) ls
 
-    go : (b : Bool) → rest .line ≤ n + 1 + length ls → pickFault b rest (fault (firstRow (lineRows reference name s n l)) n) .line ≤ n + suc (length ls)
+    go : (b : Bool) → rest .line ≤ n + 1 + length ls → pick b rest (fault (firstRow (lineRows reference name s n l)) n) .line ≤ n + suc (length ls)
     go true h = omega arith
     go false h = omega arith
 
@@ -138,7 +139,7 @@ pub judge-line : (reference name t : List ℕ) → judgeText reference name t .l
 unfolding judgeText
 judge-line reference name t = go (textWrong? t)
   where
-    go : (b : Bool) → pickFault b (fault 3 0) (judgeLines reference name above 1 (linesOf t)) .line ≤ length t + 1
+    go : (b : Bool) → pick b (fault 3 0) (judgeLines reference name above 1 (linesOf t)) .line ≤ length t + 1
     go true = omega arith
     go false = omega (arith, lines-line reference name above 1 (linesOf t), lines-few t)
 
@@ -146,6 +147,6 @@ pub judge-line-fits : (reference name t : List ℕ) → judgeText reference name
 unfolding judgeText
 judge-line-fits reference name t = go (textWrong? t) refl
   where
-    go : (b : Bool) → textWrong? t ≡ b → pickFault b (fault 3 0) (judgeLines reference name above 1 (linesOf t)) .line ≤ longestText + 1
+    go : (b : Bool) → textWrong? t ≡ b → pick b (fault 3 0) (judgeLines reference name above 1 (linesOf t)) .line ≤ longestText + 1
     go true e = omega arith
     go false e = omega (arith, lines-line reference name above 1 (linesOf t), lines-few t, text-fits t e)

@@ -9,20 +9,19 @@
 -- Assumes nothing.
 use mathlib.Core.Bool.{Bool, true, false}
 use mathlib.Core.List.{List, [], _∷_}
-use mathlib.Core.Path.{_≡_, refl, sym, ap, _∙_}
+use mathlib.Core.Path.{_≡_, refl}
 use Prim.Native.Nat.{ℕ, suc, _+_, _≤_, _<_}
 use native.Mathlib.Nat.{not-suc-le-zero}
-use native.Mathlib.Numerals.{add-one}
 use native.Mathlib.Omega.{arith}
 use borrow.Author.Tests.{eq-eqb, ne-eqb}
 use lib.Dec.{eqb}
 use lib.ListN.{length, take, drop, length-drop, drop-of-length-le}
 use lib.Seq.{drop-drop}
-use Rattle.bases.specs.Letter.{pick}
+use Rattle.bases.specs.Pick.{pick}
 use Rattle.vcf.specs.declared.list.Stage.{Stage}
 use Rattle.vcf.specs.Bytes.{LF, until}
 use Rattle.vcf.specs.Header.{headerLine?, headerWrong?}
-use Rattle.vcf.specs.List.{onto, pickLines, linesOf, textWrong?, above, belowAt, pickStage, nextStage, lineRows, fault, judgeLines, judgeText}
+use Rattle.vcf.specs.List.{onto, linesOf, textWrong?, above, belowAt, nextStage, lineRows, fault, judgeLines, judgeText}
 use Rattle.vcf.specs.Record.{tooLong?, posOn, recordRows}
 use Rattle.vcf.specs.Row.{row, firstRow}
 
@@ -34,7 +33,7 @@ lines-cons (b ∷ bs) h = go (eqb b LF) bs (lines-cons bs)
     Step : List ℕ → Type 0
     Step s = 0 < length s → linesOf s ≡ take (until LF s) s ∷ linesOf (drop (until LF s + 1) s)
 
-    go : (t : Bool) (s : List ℕ) → Step s → pickLines t ([] ∷ linesOf s) (onto b (linesOf s)) ≡ take (pick t 0 (suc (until LF s))) (b ∷ s) ∷ linesOf (drop (pick t 0 (suc (until LF s)) + 1) (b ∷ s))
+    go : (t : Bool) (s : List ℕ) → Step s → pick t ([] ∷ linesOf s) (onto b (linesOf s)) ≡ take (pick t 0 (suc (until LF s))) (b ∷ s) ∷ linesOf (drop (pick t 0 (suc (until LF s)) + 1) (b ∷ s))
     go true s f = refl
     go false [] f = refl
     go false (x ∷ s) f =
@@ -62,7 +61,7 @@ next-column s l e h = rw (e, h)
 pub next-records : (s : Stage) (l : List ℕ) → nextStage s l .records ≤ s .records + 1
 next-records s l = go (s .below) (headerLine? l)
   where
-    go : (b h : Bool) → pickStage b (belowAt (s .records + 1) (posOn l)) (pickStage h above (belowAt 0 0)) .records ≤ s .records + 1
+    go : (b h : Bool) → pick b (belowAt (s .records + 1) (posOn l)) (pick h above (belowAt 0 0)) .records ≤ s .records + 1
     go true h = omega arith
     go false true = omega arith
     go false false = omega arith

@@ -16,7 +16,7 @@ use Rattle.vcf.specs.Bytes.{LF, TAB, until}
 use Rattle.vcf.specs.Entry.{lineAt, readableFrom?}
 use Rattle.vcf.specs.Field.{skip, fieldAt, fieldFrom, field, tenFields?}
 use Rattle.vcf.specs.Record.{genotypeWrong?}
-use Rattle.vcf.proofs.BytesLaws.{until-le, until-front}
+use Rattle.vcf.proofs.BytesLaws.{until-front}
 use Rattle.vcf.proofs.EntryLaws.{line-within, readable-here}
 use Rattle.vcf.proofs.FieldLaws.{field-within}
 

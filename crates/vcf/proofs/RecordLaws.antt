@@ -9,7 +9,7 @@
 --     sample-read, copies-read, reference-read, format-read, alts-read, genotype-read, alt-read
 --                                    the genotype, REF, FORMAT and the number of ALTs that are read off it, and rows 11 and 10 by them
 -- Assumes nothing.
-use mathlib.Core.Bool.{Bool, true, false, not, _&&_, _||_}
+use mathlib.Core.Bool.{Bool, true, false, not, _&&_}
 use mathlib.Core.List.{List}
 use mathlib.Core.Path.{_≡_, refl, sym, ap, subst, _∙_}
 use Prim.Native.Nat.{ℕ, _+_, _-_, _≤_, _<_}

@@ -14,11 +14,11 @@ use mathlib.Core.Path.{_≡_, refl, sym, ap, _∙_}
 use Prim.Native.Nat.{ℕ}
 use native.Mathlib.Nat.{suc-ne-zero}
 use lib.Dec.{T}
-use Rattle.bases.specs.Letter.{pick}
 use Rattle.bases.proofs.TestLaws.{of-true, is-true}
+use Rattle.bases.specs.Pick.{pick}
 use Rattle.vcf.specs.declared.list.Stage.{Stage}
 use Rattle.vcf.specs.Header.{headerWrong?}
-use Rattle.vcf.specs.List.{pickRows, lineRows}
+use Rattle.vcf.specs.List.{lineRows}
 use Rattle.vcf.specs.Record.{tooLong?, recordRows}
 use Rattle.vcf.specs.Row.{Row, row, firstRow}
 
@@ -132,6 +132,6 @@ record-rows-numbered reference name records last l = (
 pub line-rows-numbered : (reference name : List ℕ) (s : Stage) (n : ℕ) (l : List ℕ) → Numbered (lineRows reference name s n l)
 line-rows-numbered reference name s n l = go (s .below)
   where
-    go : (b : Bool) → Numbered (pickRows b (recordRows reference name (s .records) (s .last) l) (row 4 (tooLong? l) ∷ row 5 (headerWrong? n l) ∷ []))
+    go : (b : Bool) → Numbered (pick b (recordRows reference name (s .records) (s .last) l) (row 4 (tooLong? l) ∷ row 5 (headerWrong? n l) ∷ []))
     go true = record-rows-numbered reference name (s .records) (s .last) l
     go false = (suc-ne-zero 3, (suc-ne-zero 4, tt))

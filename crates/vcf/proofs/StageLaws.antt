@@ -14,13 +14,14 @@ use native.Mathlib.Nat.{not-suc-le-zero, le-of-suc-le-suc}
 use native.Mathlib.Omega.{arith}
 use lib.Dec.{eqb, leb, ltb, leb→le}
 use lib.ListN.{length, getD}
+use Rattle.bases.specs.Pick.{pick}
 use Rattle.bases.specs.Same.{agree?}
 use Rattle.bases.proofs.SameLaws.{agree-iff}
 use Rattle.bases.proofs.TestLaws.{of-true, of-false, is-true, is-false, both}
 use Rattle.vcf.specs.declared.list.Stage.{Stage}
 use Rattle.vcf.specs.Bytes.{columnNames, hashes, begins?}
 use Rattle.vcf.specs.Header.{headerLine?, tenthEnd, columnLine?}
-use Rattle.vcf.specs.List.{above, belowAt, pickStage, nextStage}
+use Rattle.vcf.specs.List.{above, belowAt, nextStage}
 
 -- The stage behind the first i of some lines that are met at stage s.
 abbrev pub stageAt : Stage → List (List ℕ) → ℕ → Stage
@@ -43,7 +44,7 @@ stage-above-iff (l ∷ ls) (suc i) h = go (headerLine? l) refl (stage-above-iff 
     All ls i = (j : ℕ) → j < i → headerLine? (getD ls j []) ≡ true
 
     go : (t : Bool) → headerLine? l ≡ t → (stageAt above ls i .below ≡ false) ↔ All ls i
-        → (stageAt (pickStage t above (belowAt 0 0)) ls i .below ≡ false) ↔ All (l ∷ ls) (suc i)
+        → (stageAt (pick t above (belowAt 0 0)) ls i .below ≡ false) ↔ All (l ∷ ls) (suc i)
     go true e r = (to, λ f. r .1 (λ j k. f (suc j) (omega arith)))
       where
         to : stageAt above ls i .below ≡ false → All (l ∷ ls) (suc i)

@@ -17,9 +17,10 @@ use native.Mathlib.Omega.{arith}
 use lib.Dec.{eqb}
 use lib.ListN.{length, getD}
 use borrow.Author.Tests.{eqb-true, eqb-false, ne-eqb}
+use Rattle.bases.specs.Pick.{pick}
 use Rattle.vcf.specs.declared.list.Fault.{Fault}
 use Rattle.vcf.specs.declared.list.Stage.{Stage}
-use Rattle.vcf.specs.List.{nextStage, lineRows, fault, pickFault, judgeLines}
+use Rattle.vcf.specs.List.{nextStage, lineRows, fault, judgeLines}
 use Rattle.vcf.specs.Row.{Row, firstRow}
 use Rattle.vcf.proofs.RowLaws.{NoneHolds, First, first-row-found, first-row-first, first-row-none, none-holds, first-not-zero, line-rows-numbered}
 use Rattle.vcf.proofs.StageLaws.{stageAt}
@@ -158,7 +159,7 @@ module _ (reference name : List ℕ) where
   unfolding judgeLines
   told s n [] = go (s .below) refl
     where
-      go : (b : Bool) → s .below ≡ b → Told s n [] (pickFault b (fault 0 0) (fault 5 n) .number) (pickFault b (fault 0 0) (fault 5 n) .line)
+      go : (b : Bool) → s .below ≡ b → Told s n [] (pick b (fault 0 0) (fault 5 n) .number) (pick b (fault 0 0) (fault 5 n) .line)
       go true e = nowhere (record { number = refl; line = refl; below = e; clear = λ j a b. absurd (omega arith) })
       go false e = at-end (record { number = refl; line = omega arith; above = e; clear = λ j a b. absurd (omega arith) })
   told s n (l ∷ ls) = go (eqb k 0) refl (told (nextStage s l) (n + 1) ls)
@@ -173,7 +174,7 @@ module _ (reference name : List ℕ) where
       rest = judgeLines reference name (nextStage s l) (n + 1) ls
 
       go : (t : Bool) → eqb k 0 ≡ t → Told (nextStage s l) (n + 1) ls (rest .number) (rest .line)
-          → Told s n (l ∷ ls) (pickFault t rest (fault k n) .number) (pickFault t rest (fault k n) .line)
+          → Told s n (l ∷ ls) (pick t rest (fault k n) .number) (pick t rest (fault k n) .line)
       go true e r = told-cons s n l ls _ _ (none-holds rows (line-rows-numbered reference name s n l) (eqb-true k 0 e)) r
       go false e r = told-here s n l ls k (first-row-found rows k (eqb-false k 0 e) refl)
 

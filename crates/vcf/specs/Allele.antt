@@ -6,7 +6,8 @@ use mathlib.Core.List.{List}
 use Prim.Native.Nat.{ℕ, _+_}
 use lib.Dec.{leb, ltb}
 use lib.ListN.{length, take, drop}
-use Rattle.bases.specs.Letter.{pick, allLetters?}
+use Rattle.bases.specs.Letter.{allLetters?}
+use Rattle.bases.specs.Pick.{pick}
 use Rattle.bases.specs.Same.{sameBases?}
 use Rattle.vcf.specs.Bytes.{COMMA, until}
 

@@ -5,6 +5,7 @@ use mathlib.Core.List.{List, [], _∷_}
 use Prim.Native.Nat.{ℕ, _+_, _-_}
 use lib.Dec.{eqb, ltb}
 use lib.ListN.{length, getD}
+use Rattle.bases.specs.Pick.{pick}
 use Rattle.vcf.specs.declared.list.Stage.{Stage}
 use Rattle.vcf.specs.declared.list.Fault.{Fault}
 use Rattle.vcf.specs.Bytes.{LF}
@@ -17,14 +18,10 @@ abbrev pub onto : ℕ → List (List ℕ) → List (List ℕ)
 onto b [] = (b ∷ []) ∷ []
 onto b (l ∷ ls) = (b ∷ l) ∷ ls
 
-abbrev pub pickLines : Bool → List (List ℕ) → List (List ℕ) → List (List ℕ)
-pickLines true a b = a
-pickLines false a b = b
-
 -- The lines of a text, each without its LF.
 unfoldable pub linesOf : List ℕ → List (List ℕ)
 linesOf [] = []
-linesOf (b ∷ bs) = let ls = linesOf bs in pickLines (eqb b LF) ([] ∷ ls) (onto b ls)
+linesOf (b ∷ bs) = let ls = linesOf bs in pick (eqb b LF) ([] ∷ ls) (onto b ls)
 
 abbrev pub longestText : ℕ
 longestText = 65536
@@ -41,41 +38,29 @@ above = record { below = false; records = 0; last = 0 }
 abbrev pub belowAt : ℕ → ℕ → Stage
 belowAt records last = record { below = true; records = records; last = last }
 
-abbrev pub pickStage : Bool → Stage → Stage → Stage
-pickStage true a b = a
-pickStage false a b = b
-
 -- Where a line leads: lines that begin with ## stay above the records, the next is the column line, and each line below it is a record.
 abbrev pub nextStage : Stage → List ℕ → Stage
-nextStage s l = pickStage (s .below) (belowAt (s .records + 1) (posOn l)) (pickStage (headerLine? l) above (belowAt 0 0))
-
-abbrev pub pickRows : Bool → List Row → List Row → List Row
-pickRows true a b = a
-pickRows false a b = b
+nextStage s l = pick (s .below) (belowAt (s .records + 1) (posOn l)) (pick (headerLine? l) above (belowAt 0 0))
 
 -- The rows that are tried on the n-th line of the text (from 1).
 abbrev pub lineRows : List ℕ → List ℕ → Stage → ℕ → List ℕ → List Row
 lineRows reference name s n l =
-    pickRows (s .below) (recordRows reference name (s .records) (s .last) l) (row 4 (tooLong? l) ∷ row 5 (headerWrong? n l) ∷ [])
+    pick (s .below) (recordRows reference name (s .records) (s .last) l) (row 4 (tooLong? l) ∷ row 5 (headerWrong? n l) ∷ [])
 
 -- A fault: the number of its row and its line. No fault is 0 at line 0.
 abbrev pub fault : ℕ → ℕ → Fault
 fault number line = record { number = number; line = line }
 
-abbrev pub pickFault : Bool → Fault → Fault → Fault
-pickFault true a b = a
-pickFault false a b = b
-
 -- The first fault of lines, the first of which is the n-th of the text. A missing column line is told at the line number after the last.
 unfoldable pub judgeLines : List ℕ → List ℕ → Stage → ℕ → List (List ℕ) → Fault
-judgeLines reference name s n [] = pickFault (s .below) (fault 0 0) (fault 5 n)
+judgeLines reference name s n [] = pick (s .below) (fault 0 0) (fault 5 n)
 judgeLines reference name s n (l ∷ ls) =
     let k = firstRow (lineRows reference name s n l) in
     let rest = judgeLines reference name (nextStage s l) (n + 1) ls in
-    pickFault (eqb k 0) rest (fault k n)
+    pick (eqb k 0) rest (fault k n)
 
 -- The first fault of a list's text.
 unfoldable pub judgeText : List ℕ → List ℕ → List ℕ → Fault
 judgeText reference name t =
     let ls = judgeLines reference name above 1 (linesOf t) in
-    pickFault (textWrong? t) (fault 3 0) ls
+    pick (textWrong? t) (fault 3 0) ls

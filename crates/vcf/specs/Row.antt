@@ -3,7 +3,7 @@
 use mathlib.Core.Bool.{Bool}
 use mathlib.Core.List.{List, [], _∷_}
 use Prim.Native.Nat.{ℕ}
-use Rattle.bases.specs.Letter.{pick}
+use Rattle.bases.specs.Pick.{pick}
 
 pub record Row : Type 0 where
   pub number : ℕ

@@ -3,11 +3,12 @@ use mathlib.Core.Bool.{Bool, true, false}
 use mathlib.Core.List.{List, [], _∷_}
 use mathlib.Core.Path.{_≡_, refl}
 use Prim.Native.Nat.{ℕ, zero, suc, _<_}
+use Rattle.bases.specs.Pick.{pick}
 use Rattle.donors.specs.Build.{Sound}
 use Rattle.donors.specs.Choice.{cardRules}
 use Rattle.donors.specs.Items.{Starts, Ends, over}
 use Rattle.donors.specs.Rules.{list1, list2}
-use Rattle.donors.specs.Table.{rowAt, pickList, variantsFrom}
+use Rattle.donors.specs.Table.{rowAt, variantsFrom}
 use native.Mathlib.Omega.{arith}
 use borrow.Author.Needs.{needs}
 use Rattle.trials.proofs.main.Statement.{statement}
@@ -34,7 +35,7 @@ second = 67 ∷ 67 ∷ 71 ∷ 71 ∷ 84 ∷ 84 ∷ []
 abbrev table : List ℕ
 table = 1 ∷ 0 ∷ 1 ∷ 1 ∷ 0 ∷ 1 ∷ 1 ∷ 0 ∷ 1 ∷ 2 ∷ 5 ∷ 1 ∷ 1 ∷ 0 ∷ 1 ∷ 1 ∷ 0 ∷ 1 ∷ 1 ∷ 10 ∷ 1 ∷ 1 ∷ 1 ∷ 1 ∷ 1 ∷ 1 ∷ 1 ∷ 2 ∷ 15 ∷ 1 ∷ 1 ∷ 1 ∷ 1 ∷ 1 ∷ 1 ∷ 1 ∷ 1 ∷ 20 ∷ 1 ∷ 1 ∷ 2 ∷ 1 ∷ 1 ∷ 2 ∷ 1 ∷ 2 ∷ 25 ∷ 1 ∷ 1 ∷ 2 ∷ 1 ∷ 1 ∷ 2 ∷ 1 ∷ 1 ∷ 30 ∷ 1 ∷ 1 ∷ 3 ∷ 1 ∷ 1 ∷ 3 ∷ 1 ∷ 2 ∷ 35 ∷ 1 ∷ 1 ∷ 3 ∷ 1 ∷ 1 ∷ 3 ∷ 1 ∷ 1 ∷ 40 ∷ 1 ∷ 1 ∷ 4 ∷ 1 ∷ 1 ∷ 4 ∷ 1 ∷ 2 ∷ 45 ∷ 1 ∷ 1 ∷ 4 ∷ 1 ∷ 1 ∷ 4 ∷ 1 ∷ 1 ∷ 50 ∷ 1 ∷ 1 ∷ 5 ∷ 1 ∷ 1 ∷ 5 ∷ 1 ∷ 2 ∷ 55 ∷ 1 ∷ 1 ∷ 5 ∷ 1 ∷ 1 ∷ 5 ∷ 1 ∷ []
 
-sound : (i : ℕ) → i < 12 → Sound reference (pickList (rowAt table i .first) first second) (rowAt table i)
+sound : (i : ℕ) → i < 12 → Sound reference (pick (rowAt table i .first) first second) (rowAt table i)
 sound zero h = record { span = omega arith; zero = omega arith; one = omega arith }
 sound (suc zero) h = record { span = omega arith; zero = omega arith; one = omega arith }
 sound (suc (suc zero)) h = record { span = omega arith; zero = omega arith; one = omega arith }

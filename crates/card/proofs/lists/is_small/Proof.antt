@@ -1,5 +1,4 @@
 -- `card::lists::is_small` meets its contract. Assumes nothing.
-use mathlib.Core.Path.{refl}
 use borrow.Author.Tests.{lt-ltb, le-ltb}
 use Rattle.card.specs.Refusal.{leastRoom}
 use Rattle.card.proofs.lists.is_small.Statement.{statement}

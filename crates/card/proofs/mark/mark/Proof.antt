@@ -43,6 +43,7 @@ use denote.Triple.Statement.{Triple}
 use denote.Triple.Table.{entered, cited}
 use denote.Triple.Walked.{goes-slice}
 use Rattle.bases.proofs.TestLaws.{neither}
+use Rattle.bases.specs.Pick.{pick}
 use Rattle.clusters.specs.declared.plan.Cluster.{Cluster}
 use Rattle.clusters.specs.Lent.{isPlan?}
 use Rattle.clusters.specs.Marks.{clustersOf, askedFor, marksAfter}
@@ -52,7 +53,6 @@ use Rattle.clusters.proofs.PlanSteps.{R, word, text}
 use Rattle.clusters.proofs.plan.is_plan as is-plan
 use Rattle.clusters.proofs.plan.is_plan.Symbol as is-plan-def
 use Rattle.clusters.proofs.plan.is_plan.Met as is-plan-thm
-use Rattle.donors.specs.Table.{pickList}
 use Rattle.card.specs.declared.answer.Answer.{Answer}
 use Rattle.card.specs.declared.refusal.Refusal.{Refusal}
 use Rattle.card.specs.Answer.{refusedAnswer}
@@ -183,7 +183,7 @@ module _ {M : Type 1} (𝓤 : URA M) (H : Heap 𝓤) (A : Atoms 𝓤) (W : Given
           tt,
         )
         ! (fmOf 𝓤 H (W .laws) 𝓣) (known .1 .1 .1) (factI 𝓤 _ (emp 𝓤) (given .0 .ready, given .0 .short, omega (arith, given .0 .entries, enough-marks)))
-        (λ (b : Answer) ws. (b ≡ answerAsked same (askedFor (reference .now) (clustersOf (reference .now) (first .now) (second .now)) k)) × (ws .1 .1 .1 .1 .1 .0 ≡ pickList same (marksAfter (reference .now) (clustersOf (reference .now) (first .now) (second .now)) k (marks .now)) (marks .now)))
+        (λ (b : Answer) ws. (b ≡ answerAsked same (askedFor (reference .now) (clustersOf (reference .now) (first .now) (second .now)) k)) × (ws .1 .1 .1 .1 .1 .0 ≡ pick same (marksAfter (reference .now) (clustersOf (reference .now) (first .now) (second .now)) k (marks .now)) (marks .now)))
         (λ b ws. refl)
         (and-then ! (local ! 31 refl) (and-then ! (local ! 27 refl) (and-then ! (local ! 25 refl) (and-then ! (local ! 13 refl) (and-then ! (local ! 21 refl) (and-then ! (local ! 3 refl) (no-more !))))))) (λ b v good left f.
         beyond ! $ beyond ! $ beyond ! $ beyond ! $ beyond ! $ fsplit ! $ fsplit ! $ move ! (1 ∷ []) $ feqL ! (λ len.

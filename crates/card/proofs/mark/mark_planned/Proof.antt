@@ -1,6 +1,6 @@
 -- `card::mark::mark_planned` meets its contract: it answers what is told of the asked cluster. A score is at most the number of entries, so it fits 32 bits.
 -- Assumes nothing.
-use mathlib.Core.Path.{sym, ap, _∙_}
+use mathlib.Core.Path.{ap, _∙_}
 use native.Mathlib.Omega.{arith}
 use borrow.Author.Needs.{needs}
 use borrow.Author.Tests.{not-true, not-false}

@@ -7,7 +7,6 @@ use lib.Dec.{ltb}
 use lib.ListN.{length}
 use Rattle.bases.proofs.PutLaws.{put-length}
 use Rattle.bases.proofs.TestLaws.{of-true}
-use Rattle.normal.specs.Lines.{AcceptedList}
 use Rattle.normal.specs.Written.{writtenText}
 use Rattle.normal.proofs.WrittenList.{written-not-longer}
 use Rattle.vcf.proofs.JudgeLaws.{accepted-zero, text-fits}

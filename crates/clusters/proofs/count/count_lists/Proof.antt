@@ -1,7 +1,7 @@
 -- `clusters::count::count_lists` meets its contract. The loop's invariant: what is counted are the first i entries (`Counting`, of CountingLaws). The measure
 -- is the number of entries that are left. Assumes nothing.
 use mathlib.Core.Bool.{true, false}
-use mathlib.Core.Path.{_≡_, sym, ap, _∙_}
+use mathlib.Core.Path.{_≡_, sym, _∙_}
 use native.Mathlib.Omega.{arith}
 use borrow.Author.Needs.{needs}
 use borrow.Author.Tests.{not-true, not-false}

@@ -10,12 +10,13 @@ use lib.Dec.{T}
 use lib.ListN.{length}
 use Rattle.bases.proofs.PutLaws.{put-length}
 use Rattle.bases.proofs.TestLaws.{both, of-true}
+use Rattle.bases.specs.Pick.{pick}
 use Rattle.donors.specs.declared.table.Allele.{Allele}
 use Rattle.donors.specs.declared.table.Row.{Row}
 use Rattle.donors.specs.Build.{Sound, rowTakes?}
 use Rattle.donors.specs.Choice.{chosen?}
 use Rattle.donors.specs.Donor.{part}
-use Rattle.donors.specs.Table.{rowAt, pickList, choiceOf, copyOf, alleleOf}
+use Rattle.donors.specs.Table.{rowAt, choiceOf, copyOf, alleleOf}
 use Rattle.donors.proofs.BuildLaws.{row-none, row-length, row-built, row-some, allele-fits}
 use Rattle.donors.proofs.build.add_row.Statement.{statement}
 use Rattle.donors.proofs.build.add_row.Tie as tie
@@ -43,7 +44,7 @@ module _ (s : tie.Start) (t : Taken s) where
   sound : Sound (s .args .reference .now) (s .args .text .now) (row s)
   sound = s .pre .2 .sound t
 
-  fits : allele s .at + allele s .len ≤ length (pickList (allele s .text) (s .args .text .now) (s .args .reference .now))
+  fits : allele s .at + allele s .len ≤ length (pick (allele s .text) (s .args .text .now) (s .args .reference .now))
   fits = allele-fits (s .args .reference .now) (s .args .text .now) (row s) (choiceOf (s .args .choice)) (s .args .first) (copyOf (s .args .copy)) t sound
 
   room : s .args .built .len + (length (part (s .args .reference .now) (s .args .built .at) (row s .start)) + allele s .len) ≤ length (s .args .out .now)

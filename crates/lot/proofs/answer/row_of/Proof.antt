@@ -1,7 +1,7 @@
 -- `lot::answer::row_of` meets its contract: the two tests are the row's. Assumes nothing.
 use mathlib.Core.Bool.{Bool}
 use mathlib.Core.Path.{sym, ap, ap₂}
-use Rattle.bases.specs.Letter.{pick}
+use Rattle.bases.specs.Pick.{pick}
 use Rattle.lot.proofs.answer.row_of.Statement.{statement}
 use Rattle.lot.proofs.answer.row_of.Tie as tie
 

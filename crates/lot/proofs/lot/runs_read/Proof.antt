@@ -2,7 +2,7 @@
 use mathlib.Core.Bool.{Bool}
 use mathlib.Core.Path.{sym, ap}
 use borrow.Author.Tests.{lt-ltb, le-ltb}
-use Rattle.bases.specs.Letter.{pick}
+use Rattle.bases.specs.Pick.{pick}
 use Rattle.lot.proofs.lot.runs_read.Statement.{statement}
 use Rattle.lot.proofs.lot.runs_read.Tie as tie
 

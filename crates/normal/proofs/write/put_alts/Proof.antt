@@ -1,6 +1,6 @@
 -- `normal::write::put_alts` meets its contract: the first ALT is written, and where there are two a comma and the second behind it. Assumes nothing.
 use mathlib.Core.List.{[], _∷_, _++_}
-use mathlib.Core.Path.{_≡_, _∙_}
+use mathlib.Core.Path.{_∙_}
 use native.Mathlib.Omega.{arith}
 use borrow.Author.Needs.{needs}
 use borrow.Author.Tests.{eq-eqb, ne-eqb}

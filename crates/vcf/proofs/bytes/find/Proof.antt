@@ -1,6 +1,6 @@
 -- `vcf::bytes::find` meets its contract. The loop's invariant: what is found from i on is what is found from the start on.
 -- The measure is what is left of the bytes. Assumes nothing.
-use mathlib.Core.Path.{_≡_, refl, ap, _∙_}
+use mathlib.Core.Path.{_≡_, refl}
 use Prim.Native.Nat.{_+_, _-_}
 use native.Mathlib.Omega.{arith}
 use lib.ListN.{length, drop}

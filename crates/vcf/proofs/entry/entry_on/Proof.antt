@@ -1,12 +1,11 @@
 -- `vcf::entry::entry_on` meets its contract: each field is read where it begins, and is what the definition names. Assumes nothing.
-use mathlib.Core.Path.{_≡_, sym, ap, _∙_}
+use mathlib.Core.Path.{_≡_}
 use native.Mathlib.Omega.{arith}
 use borrow.Author.Needs.{needs}
 use lib.Dec.{lit<}
 use lib.ListN.{length, drop}
 use Rattle.vcf.specs.Bytes.{TAB, COMMA, until}
 use Rattle.vcf.specs.Field.{fieldAt, field}
-use Rattle.vcf.specs.Record.{genotypeOn}
 use Rattle.vcf.proofs.FieldLaws.{until-within, field-length, field-within, read}
 use Rattle.vcf.proofs.EntryLaws.{entry-is}
 use Rattle.vcf.proofs.RecordLaws.{readable-ten, readable-right, sample-read, copies-read}

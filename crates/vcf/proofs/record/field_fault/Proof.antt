@@ -1,6 +1,6 @@
 -- `vcf::record::field_fault` meets its contract: its tests are the rows' tests, in their order. Assumes nothing.
 use mathlib.Core.List.{[]}
-use mathlib.Core.Path.{_≡_, sym, ap, _∙_}
+use mathlib.Core.Path.{sym, ap, _∙_}
 use Prim.Native.Nat.{ℕ}
 use borrow.Author.Needs.{needs}
 use borrow.Author.Tests.{lt-ltb, le-ltb, eq-eqb, ne-eqb}

@@ -1,5 +1,5 @@
 -- `vcf::record::genotype_wrong` meets its contract: the fields are read where they begin. Assumes nothing.
-use mathlib.Core.Path.{_≡_, sym, _∙_}
+use mathlib.Core.Path.{sym, _∙_}
 use native.Mathlib.Omega.{arith}
 use borrow.Author.Needs.{needs}
 use lib.Dec.{lit<}
