@@ -16,12 +16,17 @@ use Rattle.lot.proofs.lot.lot_of_first.Kinds as lot-of-first-kinds
 use Rattle.lot.proofs.lot.lot_of_first.Reads as lot-of-first
 use Rattle.lot.proofs.run.is_large.Kinds as is-large-kinds
 use Rattle.lot.proofs.run.is_large.Reads as is-large
+use Rattle.lot.proofs.run.run_of.Kinds as run-of-kinds
+use Rattle.lot.proofs.run.run_of.Reads as run-of
 use Rattle.lot.proofs.share.share_of.Kinds as share-of-kinds
 use Rattle.lot.proofs.share.share_of.Reads as share-of
 use Rattle.lot.proofs.sum.add_run.Kinds as add-run-kinds
 use Rattle.lot.proofs.sum.add_run.Reads as add-run
 use Rattle.lot.proofs.sum.no_sum.Kinds as no-sum-kinds
 use Rattle.lot.proofs.sum.no_sum.Reads as no-sum
+
+pub run-of-determines : OneResult 0 run-of-kinds.ps run-of-kinds.r run-of.Post
+run-of-determines κs a z z′ e e′ p q = p ∙ sym q
 
 pub is-large-determines : OneResult 0 is-large-kinds.ps is-large-kinds.r is-large.Post
 is-large-determines κs a z z′ e e′ p q = p ∙ sym q

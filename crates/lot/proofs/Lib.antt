@@ -8,3 +8,4 @@ pub mod RefusalLaws
 pub mod RunLaws
 pub mod ShareLaws
 pub mod SumLaws
+pub mod WithinLaws

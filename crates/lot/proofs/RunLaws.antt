@@ -1,5 +1,6 @@
 -- Laws of runs and of their totals.
 --     small-truth, small-called       a run that is not too large has at most 512 entries in each list
+--     within-small                    and a run that has no more is not too large
 --     any-large-append, total-append  of two lists of runs together
 --     any-large-more, total-more      of the first k runs and one more
 -- Assumes nothing.
@@ -9,7 +10,7 @@ use mathlib.Core.Path.{_≡_, refl, sym, ap, _∙_}
 use Prim.Native.Nat.{ℕ, suc, _+_, _≤_, _<_}
 use native.Mathlib.Nat.{zero-add, add-zero}
 use native.Mathlib.Omega.{arith}
-use borrow.Author.Tests.{ltb-false}
+use borrow.Author.Tests.{ltb-false, le-ltb}
 use lib.ListN.{length, getD, take}
 use lib.Seq.{take-suc}
 use Rattle.bases.proofs.TestLaws.{neither}
@@ -26,6 +27,9 @@ module _ (r : Run) (small : large? r ≡ false) where
 
   pub small-called : calledOf r ≤ mostRecords
   small-called = ltb-false mostRecords (calledOf r) (within .1)
+
+pub within-small : (r : Run) → truthOf r ≤ mostRecords → calledOf r ≤ mostRecords → large? r ≡ false
+within-small r truth called = rw (le-ltb mostRecords (truthOf r) truth, le-ltb mostRecords (calledOf r) called)
 
 or-or : (s t u : Bool) → (s || t) || u ≡ s || (t || u)
 or-or true t u = refl

@@ -1,5 +1,5 @@
+pub mod Control
 pub mod Lot
-pub mod Marked
 pub mod Run
 pub mod Share
 pub mod Sum

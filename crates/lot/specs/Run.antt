@@ -4,12 +4,24 @@ use mathlib.Core.Bool.{Bool, false, _||_}
 use mathlib.Core.List.{List, [], _∷_}
 use Prim.Native.Nat.{ℕ, _+_}
 use lib.Dec.{ltb}
+use Rattle.card.specs.declared.count.Counted.{Counted}
 use Rattle.vcf.specs.Record.{mostRecords}
 use Rattle.lot.specs.declared.run.Run.{Run}
 
 -- The most runs of a lot.
 abbrev pub mostRuns : ℕ
 mostRuns = 256
+
+-- The run whose six counts the call `count` answered.
+abbrev pub runOf : Counted → Run
+runOf c = record {
+  matched1 = c .matched1;
+  unmatched1 = c .unmatched1;
+  undecided1 = c .undecided1;
+  matched2 = c .matched2;
+  unmatched2 = c .unmatched2;
+  undecided2 = c .undecided2;
+}
 
 -- The entries of the truth, and of what was called.
 abbrev pub truthOf : Run → ℕ

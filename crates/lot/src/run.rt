@@ -1,6 +1,7 @@
 // A control run, by the six counts that the card makes from its marks.
 ghost use mathlib.Core.Path.{_≡_};
-ghost use Rattle.lot.specs.Run.{above?, large?};
+ghost use Rattle.lot.specs.Run.{runOf, above?, large?};
+use card::count::Counted;
 use vcf::record::MOST_RECORDS;
 
 // List 1 is the truth, list 2 what the run called.
@@ -11,6 +12,22 @@ pub struct Run {
     pub matched2: u32,
     pub unmatched2: u32,
     pub undecided2: u32,
+}
+
+// The run whose six counts the call `count` answered. A refused call has counted nothing, and its six zeros are no run's: none is made
+// of them, since a lot would not tell it from a run without entries.
+pub fn run_of(counted: Counted) -> Run
+    requires { ⌜ counted .number ≡ 0 ⌝ }
+    ensures { λ r. ⌜ r ≡ runOf counted ⌝ }
+{
+    Run {
+        matched1: counted.matched1,
+        unmatched1: counted.unmatched1,
+        undecided1: counted.undecided1,
+        matched2: counted.matched2,
+        unmatched2: counted.unmatched2,
+        undecided2: counted.undecided2,
+    }
 }
 
 // Are there more entries than a list has? The counts may be of any size, so they are added with room for all of them.
