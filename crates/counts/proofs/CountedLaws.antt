@@ -3,17 +3,29 @@
 --     text-refused                    where it is refused, the text says so
 --     text-counts, text-few, text-accepted
 --                                     else both lists can be counted, the counts can be printed, and their line is what is printed
---     line-few, length-few            the most bytes that are printed
+--     six-few, line-few, length-few   the most bytes that are printed
+--     counted-call                    the counts that are printed are those that the call `count` answers for the marks that `mark_all` leaves
 -- Assumes nothing.
 use mathlib.Core.List.{List}
 use mathlib.Core.Logic.{_≢_}
 use mathlib.Core.Path.{_≡_, sym, ap, _∙_}
 use Prim.Native.Nat.{ℕ, _+_, _≤_}
 use native.Mathlib.Omega.{arith}
+use lib.Dec.{ltb}
 use lib.ListN.{length, drop, length-append}
 use Rattle.card.specs.declared.all.AllMarked.{AllMarked}
-use Rattle.card.specs.Refusal.{leastRoom}
+use Rattle.card.specs.declared.refusal.Refusal.{Refusal}
+use Rattle.card.specs.All.{allRefusal, allBytes}
+use Rattle.card.specs.Answer.{answer, refusedAnswer}
+use Rattle.card.specs.Count.{countedOf, counted}
+use Rattle.card.specs.Mark.{smallRoom?}
+use Rattle.card.specs.Refusal.{leastRoom, listsChecks}
+use Rattle.card.proofs.AllLaws.{all-given}
 use Rattle.card.proofs.ClusterMarks.{marks-all}
+use Rattle.card.proofs.CountLaws.{count-given, count-marked}
+use Rattle.card.proofs.ListsLaws.{lists-numbered, lists-read}
+use Rattle.card.proofs.RefusalLaws.{first-none, none-holds}
+use Rattle.clusters.specs.declared.plan.Cluster.{Cluster}
 use Rattle.clusters.specs.declared.count.Counts.{Counts}
 use Rattle.clusters.specs.Counts.{countsOf, mostEntries, Few}
 use Rattle.clusters.specs.Heads.{Readable, startHeads}
@@ -22,7 +34,7 @@ use Rattle.clusters.specs.Merged.{mergedItems}
 use Rattle.clusters.proofs.CountLaws.{counts-few, counts-marks}
 use Rattle.clusters.proofs.HeadsLaws.{ready-readable}
 use Rattle.files.specs.File.{chromName, basesOfFile}
-use Rattle.lines.specs.Lines.{largestNumber, fields, refusedText}
+use Rattle.lines.specs.Lines.{largestNumber, fields, countsFields, refusedText}
 use Rattle.lines.proofs.FieldLaws.{fields-few}
 use Rattle.told.specs.Files.{refusalOf, filesAnswered, filesMarks}
 use Rattle.told.proofs.FilesLaws.{Tells, files-tell, files-printable, accepted-files, files-answerable, files-marks, files-marked}
@@ -30,16 +42,11 @@ use Rattle.told.proofs.ToldLaws.{told-few, numbers-refused, numbers-text}
 use Rattle.vcf.specs.Bytes.{LF, TAB}
 use Rattle.counts.specs.Counted.{countsLine, countsFor, countedText, countedMost}
 
+six-few : (a b c d e f : ℕ) → length (countsFields a b c d e f) ≤ countedMost
+six-few a b c d e f = omega (arith, length-append (fields a b c TAB) (fields d e f LF), fields-few a b c TAB, fields-few d e f LF)
+
 pub line-few : (c : Counts) → length (countsLine c) ≤ countedMost
-line-few c =
-    let one = fields (c .first .matched) (c .first .unmatched) (c .first .undecided) TAB in
-    let two = fields (c .second .matched) (c .second .unmatched) (c .second .undecided) LF in
-    omega (
-      arith,
-      length-append one two,
-      fields-few (c .first .matched) (c .first .unmatched) (c .first .undecided) TAB,
-      fields-few (c .second .matched) (c .second .unmatched) (c .second .undecided) LF,
-    )
+line-few c = six-few _ _ _ _ _ _
 
 -- What is printed has at most so many bytes, said of a number that is that of its bytes.
 pub length-few : (file first second : List ℕ) (n : ℕ) → n ≡ length (countedText file first second) → n ≤ countedMost
@@ -83,3 +90,23 @@ module _ (file first second : List ℕ) (answer : AllMarked) (before marks : Lis
         let same = counts-marks (mergedItems first second) own (drop (0 + length own) before) (omega (arith, marks-all r chromName first second (accept .0) (accept .1))) in
         ap countsLine (e ∙ ap (countsOf (mergedItems first second)) (wrote ∙ files-marks file first second before long z) ∙ same)
         ∙ sym (numbers-text (answer .number) (answer .list) (answer .line) (refusalOf file first second) tells (countsLine (countsFor r first second)) zero)
+
+module _ (reference name first second : List ℕ) (plan : List Cluster) (marks : List ℕ) (z : allRefusal reference name first second (length plan) (length marks) .number ≡ 0) where
+  -- the marks of all clusters, and the bytes that hold them
+  abbrev these : List ℕ
+  these = allMarks reference (clustersOf reference first second)
+
+  abbrev bytes : List ℕ
+  bytes = allBytes reference name first second plan marks
+
+  pub counted-call : counted reference name first second (allBytes reference name first second plan marks) ≡ countedOf (answer 0 0 0 0) (countsFor reference first second)
+  counted-call =
+      let zero = count-marked reference name first second plan marks z .0 in
+      let small = ltb (length bytes) leastRoom in
+      let none = first-none (listsChecks reference name first second small) (none-holds (listsChecks reference name first second small) (lists-numbered reference name first small second) zero) in
+      let read = lists-read reference name first (smallRoom? (length plan) (length marks)) second z in
+      count-given reference name first second bytes zero
+      ∙ ap (λ (r : Refusal). countedOf (refusedAnswer r) (countsOf (mergedItems first second) bytes)) none
+      ∙ ap (λ (ms : List ℕ). countedOf (answer 0 0 0 0) (countsOf (mergedItems first second) ms)) (all-given reference name first second plan marks z .2)
+      ∙ ap (countedOf (answer 0 0 0 0))
+      (counts-marks (mergedItems first second) these (drop (0 + length these) marks) (omega (arith, marks-all reference name first second (read .0 .accepted) (read .1))))

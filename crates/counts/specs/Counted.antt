@@ -1,23 +1,22 @@
 -- What counts prints for the bytes of a run's three files, reference.txt, first.vcf and second.vcf: one line with the six counts of the run's marks. On
 -- refusal the only line is that of the refusal.
 -- Assumes nothing: these are definitions.
-use mathlib.Core.List.{List, _++_}
+use mathlib.Core.List.{List}
 use Prim.Native.Nat.{ℕ, _*_}
 use Rattle.clusters.specs.declared.count.Counts.{Counts}
 use Rattle.clusters.specs.Counts.{countsOf}
 use Rattle.clusters.specs.Marks.{clustersOf, allMarks}
 use Rattle.clusters.specs.Merged.{mergedItems}
 use Rattle.files.specs.File.{basesOfFile}
-use Rattle.lines.specs.Lines.{fields, fieldsMost}
+use Rattle.lines.specs.Lines.{countsFields, fieldsMost}
 use Rattle.told.specs.Files.{refusalOf}
 use Rattle.told.specs.Told.{toldText}
-use Rattle.vcf.specs.Bytes.{LF, TAB}
 
--- The line: matched, unmatched and undecided of list 1, then of list 2, TAB-separated.
+-- The line: matched, unmatched and undecided of list 1, then of list 2.
 abbrev pub countsLine : Counts → List ℕ
 countsLine c =
-    fields (c .first .matched) (c .first .unmatched) (c .first .undecided) TAB
-    ++ fields (c .second .matched) (c .second .unmatched) (c .second .undecided) LF
+    countsFields (c .first .matched) (c .first .unmatched) (c .first .undecided)
+    (c .second .matched) (c .second .unmatched) (c .second .undecided)
 
 -- The counts of two accepted lists: those of the marks that the card gives their entries.
 abbrev pub countsFor : List ℕ → List ℕ → List ℕ → Counts

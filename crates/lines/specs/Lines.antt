@@ -24,6 +24,11 @@ field n end = number n ++ (end ∷ [])
 abbrev pub fields : ℕ → ℕ → ℕ → ℕ → List ℕ
 fields a b c end = field a TAB ++ field b TAB ++ field c end
 
+-- The six counts of a run, those of list 1 and then those of list 2, as program counts prints them and lot_report reads them.
+abbrev pub countsFields : ℕ → ℕ → ℕ → ℕ → ℕ → ℕ → List ℕ
+countsFields matched1 unmatched1 undecided1 matched2 unmatched2 undecided2 =
+    fields matched1 unmatched1 undecided1 TAB ++ fields matched2 unmatched2 undecided2 LF
+
 -- refused, with the TAB behind it
 abbrev pub refusedWord : List ℕ
 refusedWord = 114 ∷ 101 ∷ 102 ∷ 117 ∷ 115 ∷ 101 ∷ 100 ∷ 9 ∷ []

@@ -7,7 +7,7 @@ use Prim.Native.Nat.{ℕ, _≤_}
 use lib.Dec.{eqb}
 use lib.ListN.{length}
 use Rattle.bases.specs.Pick.{pick}
-use Rattle.lines.specs.Lines.{fields, refusedText}
+use Rattle.lines.specs.Lines.{countsFields, refusedText}
 use Rattle.lot.specs.declared.run.Run.{Run}
 use Rattle.lot.specs.Lot.{lotOf}
 use Rattle.lot.specs.Run.{large?}
@@ -20,10 +20,9 @@ pub record Named : Type 0 where
   pub name : List ℕ
   pub run : Run
 
--- The line of a run's six counts.
+-- The line of a run's six counts, by the definition that what counts prints is stated with.
 abbrev pub countsText : Run → List ℕ
-countsText r =
-    fields (r .matched1) (r .unmatched1) (r .undecided1) TAB ++ fields (r .matched2) (r .unmatched2) (r .undecided2) LF
+countsText r = countsFields (r .matched1) (r .unmatched1) (r .undecided1) (r .matched2) (r .unmatched2) (r .undecided2)
 
 unfoldable pub madeLines : List Named → List ℕ
 madeLines [] = []
