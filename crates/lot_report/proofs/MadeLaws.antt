@@ -31,7 +31,7 @@ use Rattle.vcf.specs.Pos.{largestPos}
 use Rattle.lot_report.specs.Count.{countOf}
 use Rattle.lot_report.specs.Made.{Named, madeLines, madeText, Sound, AllSound, runsNamed, namedText, namedReport}
 use Rattle.lot_report.specs.Report.{runsReport, reportText}
-use Rattle.lot_report.specs.Run.{runsHeading, headed?, run?, nameOf, runOf, runLines, badLine, runsOn}
+use Rattle.lot_report.specs.Run.{runsHeading, headed?, run?, nameOf, runOn, runLines, badLine, runsOn}
 use Rattle.lot_report.specs.Table.{runsText}
 use Rattle.lot_report.proofs.CountLaws.{count-digits}
 use Rattle.lot_report.proofs.JoinedLaws.{joined, count-written, field-joined, counts-joined, free-joined, then-end, counts-after, IsCount, count-of-number}
@@ -67,7 +67,7 @@ module _ (n : Named) (s : Sound n) where
   column k m h e few =
       ap (λ (f : List ℕ). countOf f) (field-joined k (n .name) (map number (counts (n .run))) (s .no-tab) free h ∙ e) ∙ count-written m few .1
 
-  pub line-run : runOf (lineOf n) ≡ n .run
+  pub line-run : runOn (lineOf n) ≡ n .run
   line-run =
       let r = n .run in
       let t = small-truth r (s .small) in

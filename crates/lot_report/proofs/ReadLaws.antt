@@ -20,7 +20,7 @@ use Rattle.lot.specs.Run.{mostRuns}
 use Rattle.vcf.proofs.ListLaws.{lines-at, lines-past}
 use Rattle.vcf.specs.Entry.{lineAt, nextLine}
 use Rattle.vcf.specs.List.{linesOf}
-use Rattle.lot_report.specs.Run.{runOf, runsOn, noRuns}
+use Rattle.lot_report.specs.Run.{runOn, runsOn, noRuns}
 
 abbrev pub filled : List ℕ → ℕ → ℕ → List Run → List Run
 filled t a n runs = put runs n (take (mostRuns - n) (runsOn (linesOf (drop a t))))
@@ -32,9 +32,9 @@ pub filled-past : (t : List ℕ) (a n : ℕ) (runs : List Run) → length t ≤ 
 filled-past t a n runs h = rw (lines-past t a h) (rw (take-all {A = Run} (mostRuns - n) [] (omega arith)) (put-none runs n))
 
 pub filled-more : (t : List ℕ) (a n : ℕ) (runs : List Run) → a < length t → n < mostRuns → length runs ≡ mostRuns
-    → filled t (nextLine t a) (n + 1) (set runs n (runOf (lineAt t a))) ≡ filled t a n runs
+    → filled t (nextLine t a) (n + 1) (set runs n (runOn (lineAt t a))) ≡ filled t a n runs
 filled-more t a n runs h k m =
-    let r = runOf (lineAt t a) in
+    let r = runOn (lineAt t a) in
     let e : mostRuns - n ≡ suc (mostRuns - (n + 1)) = omega arith in
     rw (e, lines-at t a h, put-set runs n r (omega arith)) (put-put runs n (omega arith) (r ∷ []) (take (mostRuns - (n + 1)) (runsOn (linesOf (drop (nextLine t a) t)))))
 
@@ -46,5 +46,5 @@ lot-read rs = first-given rs (put noRuns 0 (take mostRuns rs)) (λ few. rw (take
 
 pub lot-made : (ls : List (List ℕ)) (l : Lot) (runs : List Run) (n : ℕ) → n ≡ length ls → runs ≡ put noRuns 0 (take mostRuns (runsOn ls)) → l ≡ lotOfFirst n runs → l ≡ lotOf (runsOn ls)
 lot-made ls l runs n e r k =
-    let m : n ≡ length (runsOn ls) = omega (arith, length-map ls runOf) in
+    let m : n ≡ length (runsOn ls) = omega (arith, length-map ls runOn) in
     k ∙ rw (m, r) (lot-read (runsOn ls))

@@ -23,7 +23,7 @@ use Rattle.vcf.specs.Bytes.{LF}
 use Rattle.vcf.specs.Entry.{nextLine}
 use Rattle.vcf.specs.List.{linesOf, longestText, textWrong?}
 use Rattle.lot_report.specs.Report.{runsReport, reportText}
-use Rattle.lot_report.specs.Run.{headed?, runLines, badLine, runOf, runsOn}
+use Rattle.lot_report.specs.Run.{headed?, runLines, badLine, runOn, runsOn}
 use Rattle.lot_report.specs.Table.{heading, lotName, lineText, runsText, tableText, tableMost}
 use Rattle.lot_report.proofs.LotLaws.{answered-few}
 use Rattle.lot_report.proofs.RunLaws.{bad-few, lines-few}
@@ -92,7 +92,7 @@ module _ (t : List ℕ) where
         runs-few t a,
         line-few lotName (lotOf (runsOn ls)),
         answered-few (runsOn ls) e,
-        length-map ls runOf,
+        length-map ls runOn,
       )
 
   -- by whether the lot is refused

@@ -26,13 +26,13 @@ use Rattle.vcf.specs.Entry.{lineAt, nextLine}
 use Rattle.vcf.specs.Field.{fieldAt}
 use Rattle.vcf.specs.List.{onto, linesOf}
 use Rattle.lot_report.specs.Fine.{Fine, AllFine}
-use Rattle.lot_report.specs.Run.{nameOf, runOf, runsOn}
+use Rattle.lot_report.specs.Run.{nameOf, runOn, runsOn}
 use Rattle.lot_report.specs.Table.{lineMost, runText, runsText}
 use Rattle.lot_report.proofs.RunLaws.{runs-here, runs-next}
 use Rattle.lot_report.proofs.ShareLaws.{line-few}
 
 pub run-line-few : (l : List ℕ) → length (runText l) ≤ length l + lineMost
-run-line-few l = omega (arith, line-few (nameOf l) (lotOf (runOf l ∷ [])), field-length l (fieldAt 0 l), until-within TAB l (fieldAt 0 l))
+run-line-few l = omega (arith, line-few (nameOf l) (lotOf (runOn l ∷ [])), field-length l (fieldAt 0 l), until-within TAB l (fieldAt 0 l))
 
 -- How many bytes lines have, without their LFs.
 unfoldable bytesOn : List (List ℕ) → ℕ
@@ -58,9 +58,9 @@ pub runs-few : (t : List ℕ) (a : ℕ) → length (runsText (linesOf (drop a t)
 runs-few t a = omega (arith, lines-runs-few (linesOf (drop a t)), bytes-few (drop a t), length-drop a t)
 
 module _ (t : List ℕ) (a : ℕ) (h : a < length t) (f : AllFine (linesOf (drop a t))) where
-  small : (large? (runOf (lineAt t a)) ≡ false) × (anyLarge? (runsOn (linesOf (drop (nextLine t a) t))) ≡ false)
+  small : (large? (runOn (lineAt t a)) ≡ false) × (anyLarge? (runsOn (linesOf (drop (nextLine t a) t))) ≡ false)
   unfolding anyLarge?
-  small = neither (large? (runOf (lineAt t a))) (anyLarge? (runsOn (linesOf (drop (nextLine t a) t)))) (rw (lines-at t a h) at (f .small))
+  small = neither (large? (runOn (lineAt t a))) (anyLarge? (runsOn (linesOf (drop (nextLine t a) t)))) (rw (lines-at t a h) at (f .small))
 
   pub fine-here : Fine (lineAt t a)
   fine-here = record { run = runs-here t a h (f .runs); small = small .0 }

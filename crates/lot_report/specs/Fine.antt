@@ -10,12 +10,12 @@ use Rattle.lot.specs.declared.answer.Lot.{Lot}
 use Rattle.lot.specs.Lot.{lotOf}
 use Rattle.lot.specs.Run.{large?, anyLarge?}
 use Rattle.vcf.specs.List.{linesOf, longestText}
-use Rattle.lot_report.specs.Run.{run?, allRuns?, runOf, runsOn}
+use Rattle.lot_report.specs.Run.{run?, allRuns?, runOn, runsOn}
 
 -- The line is a run whose counts do not exceed what a list has.
 pub record Fine (l : List ℕ) : Type 0 where
   pub run : T (run? l)
-  pub small : large? (runOf l) ≡ false
+  pub small : large? (runOn l) ≡ false
 
 -- Each line is one.
 pub record AllFine (ls : List (List ℕ)) : Type 0 where

@@ -45,8 +45,8 @@ run? l = ltb 0 (fieldEnd l 0) && counts? countsOfRun l (fieldEnd l 0 + 1)
 abbrev pub nameOf : List ℕ → List ℕ
 nameOf l = field 0 l
 
-abbrev pub runOf : List ℕ → Run
-runOf l = record {
+abbrev pub runOn : List ℕ → Run
+runOn l = record {
   matched1 = countOf (field 1 l);
   unmatched1 = countOf (field 2 l);
   undecided1 = countOf (field 3 l);
@@ -71,7 +71,7 @@ allRuns? (l ∷ ls) = run? l && allRuns? ls
 
 -- The runs on lines.
 abbrev pub runsOn : List (List ℕ) → List Run
-runsOn ls = map runOf ls
+runsOn ls = map runOn ls
 
 -- Room for the runs of a lot, without entries.
 abbrev pub noRuns : List Run

@@ -14,7 +14,7 @@ use Rattle.lot.specs.Lot.{lotOf}
 use Rattle.lot.specs.Run.{mostRuns}
 use Rattle.vcf.specs.Bytes.{LF, TAB}
 use Rattle.vcf.specs.List.{longestText}
-use Rattle.lot_report.specs.Run.{nameOf, runOf, runsOn}
+use Rattle.lot_report.specs.Run.{nameOf, runOn, runsOn}
 
 -- run truth truth_matched truth_undecided called called_matched called_undecided recall recall_ppm recall_percent precision precision_ppm
 -- precision_percent, TAB-separated, and the LF
@@ -71,7 +71,7 @@ lineText name l =
 
 -- The line of a run: that of a lot of this run alone.
 abbrev pub runText : List ℕ → List ℕ
-runText l = lineText (nameOf l) (lotOf (runOf l ∷ []))
+runText l = lineText (nameOf l) (lotOf (runOn l ∷ []))
 
 unfoldable pub runsText : List (List ℕ) → List ℕ
 runsText [] = []

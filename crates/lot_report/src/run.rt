@@ -6,7 +6,7 @@ ghost use lib.ListN.{length, drop};
 ghost use Rattle.vcf.specs.Field.{field};
 ghost use Rattle.vcf.specs.List.{linesOf};
 ghost use Rattle.lot_report.specs.Count.{countOf};
-ghost use Rattle.lot_report.specs.Run.{headed?, countsOfRun, run?, runOf, badLine};
+ghost use Rattle.lot_report.specs.Run.{headed?, countsOfRun, run?, runOn, badLine};
 use crate::count::is_count;
 use crate::count::read_count;
 use bases::bytes::same_bytes;
@@ -66,7 +66,7 @@ fn count_on(line: &[u8], k: usize) -> u32
 // The six counts of a run.
 pub fn run_on(line: &[u8]) -> Run
     requires { ⌜ T (run? (now line)) ⌝ }
-    ensures { λ r. ⌜ r ≡ runOf (now (line .entry)) ⌝ }
+    ensures { λ r. ⌜ r ≡ runOn (now (line .entry)) ⌝ }
 {
     Run {
         matched1: count_on(line, 1),

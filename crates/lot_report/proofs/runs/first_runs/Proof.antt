@@ -13,7 +13,7 @@ use Rattle.vcf.proofs.FieldLaws.{until-within}
 use Rattle.vcf.specs.Bytes.{LF, until}
 use Rattle.vcf.specs.Entry.{lineAt, nextLine}
 use Rattle.vcf.specs.List.{linesOf}
-use Rattle.lot_report.specs.Run.{allRuns?, runOf, runsOn, noRuns}
+use Rattle.lot_report.specs.Run.{allRuns?, runOn, runsOn, noRuns}
 use Rattle.lot_report.proofs.ReadLaws.{filled, filled-full, filled-past, filled-more}
 use Rattle.lot_report.proofs.RunLaws.{runs-here, runs-next}
 use Rattle.lot_report.proofs.runs.first_runs.Statement.{statement}
@@ -75,12 +75,12 @@ loop-again c =
     let p = c .before .before .before .before .before .loop in
     let e : c .before .before .find .result - p .at ≡ until LF (drop (p .at) t) = omega (arith, c .before .before .find .ensures) in
     let next : c .before .before .find .result + 1 ≡ nextLine t (p .at) = omega (arith, c .before .before .find .ensures) in
-    let r : c .run-on .result ≡ runOf (lineAt t (p .at)) = c .run-on .ensures ∙ ap (λ (n : ℕ). runOf (take n (drop (p .at) t))) e in
+    let r : c .run-on .result ≡ runOn (lineAt t (p .at)) = c .run-on .ensures ∙ ap (λ (n : ℕ). runOn (take n (drop (p .at) t))) e in
     rw (next, r) (
       omega arith,
       omega (arith, until-within LF t (p .at)),
       runs-next t (p .at) (omega arith) (p .inv .2),
-      length-set (p .runs) (p .n) (runOf (lineAt t (p .at))) ∙ p .inv .3,
+      length-set (p .runs) (p .n) (runOn (lineAt t (p .at))) ∙ p .inv .3,
       filled-more t (p .at) (p .n) (p .runs) (omega arith) (omega arith) (p .inv .3) ∙ p .inv .4,
     )
 

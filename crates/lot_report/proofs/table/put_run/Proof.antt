@@ -11,7 +11,7 @@ use Rattle.lot.specs.Lot.{lotOf, lotOfFirst}
 use Rattle.lot.specs.Run.{mostRuns}
 use Rattle.vcf.proofs.FieldLaws.{until-within, field-length, skip-zero}
 use Rattle.vcf.specs.Bytes.{TAB}
-use Rattle.lot_report.specs.Run.{nameOf, runOf}
+use Rattle.lot_report.specs.Run.{nameOf, runOn}
 use Rattle.lot_report.specs.Table.{lineText, runText}
 use Rattle.lot_report.proofs.LotLaws.{lot-alone, alone-answered, lot-printable}
 use Rattle.lot_report.proofs.table.put_run.Statement.{statement}
@@ -30,7 +30,7 @@ put-line-requires : tie.Need-put-line-requires
 put-line-requires c κs =
     let s = c .before .before .before .before .before .before in
     let l = s .args .line .now in
-    let r = runOf l in
+    let r = runOn l in
     let lot : c .before .before .lot-of-first .result ≡ lotOf (r ∷ []) = c .before .before .lot-of-first .ensures ∙ ap (λ (x : Run). lotOfFirst 1 (replicate mostRuns x)) (c .before .before .before .run-on .ensures) ∙ lot-alone r in (
       rw lot (lot-printable (r ∷ []) (alone-answered r (s .pre .0 .small))),
       omega (arith, s .pre .1, ap (λ (f : List ℕ). length f) (c .before .field-from .ensures), field-length l 0, until-within TAB l 0),
@@ -43,7 +43,7 @@ returns : tie.Need-returns
 returns c =
     let a = c .before .before .before .before .before .before .before .before .before .args in
     let l = a .line .now in
-    let r = runOf l in
+    let r = runOn l in
     let lot : c .before .before .before .before .before .lot-of-first .result ≡ lotOf (r ∷ []) = c .before .before .before .before .before .lot-of-first .ensures ∙ ap (λ (x : Run). lotOfFirst 1 (replicate mostRuns x)) (c .before .before .before .before .before .before .run-on .ensures) ∙ lot-alone r in
     let p = c .before .before .put-line in
     let name : c .before .before .before .before .field-from .result .now ≡ nameOf l = c .before .before .before .before .field-from .ensures ∙ rw (skip-zero l 0) in

@@ -8,7 +8,7 @@ use Rattle.lines.proofs.WroteLaws.{wrote-then}
 use Rattle.lot.specs.declared.answer.Lot.{Lot}
 use Rattle.lot.specs.Lot.{lotOf}
 use Rattle.vcf.specs.List.{linesOf}
-use Rattle.lot_report.specs.Run.{runOf, runsOn}
+use Rattle.lot_report.specs.Run.{runOn, runsOn}
 use Rattle.lot_report.specs.Table.{heading, lotName, lineText, runsText}
 use Rattle.lot_report.proofs.LotLaws.{answered-few, answered-small, lot-printable}
 use Rattle.lot_report.proofs.TableLaws.{runs-few}
@@ -31,7 +31,7 @@ put-runs-requires c κs =
     let z : lotOf (runsOn ls) .number ≡ 0 = ap (λ (l : Lot). l .number) (sym (h .lot)) ∙ h .answered in (
       record { runs = h .runs; small = answered-small (runsOn ls) z },
       h .inside,
-      omega (arith, s .pre .1, h .short, c .before .before .before .put-bytes .ensures .0, c .before .before .before .put-bytes .kept .1 .0, answered-few (runsOn ls) z, length-map ls runOf),
+      omega (arith, s .pre .1, h .short, c .before .before .before .put-bytes .ensures .0, c .before .before .before .put-bytes .kept .1 .0, answered-few (runsOn ls) z, length-map ls runOn),
     )
 
 slice-aggregate-put-line : tie.Need-slice-aggregate-put-line
@@ -46,7 +46,7 @@ put-line-requires c κs =
     let h = s .pre .0 in
     let z : lotOf (runsOn ls) .number ≡ 0 = ap (λ (l : Lot). l .number) (sym (h .lot)) ∙ h .answered in (
       rw (h .lot) (lot-printable (runsOn ls) z),
-      omega (arith, s .pre .1, h .short, c .before .before .before .before .before .before .before .before .put-bytes .ensures .0, c .before .before .before .before .before .before .before .before .put-bytes .kept .1 .0, c .before .before .before .before .put-runs .ensures .0, c .before .before .before .before .put-runs .kept .1 .1 .0, runs-few t (a .from), answered-few (runsOn ls) z, length-map ls runOf),
+      omega (arith, s .pre .1, h .short, c .before .before .before .before .before .before .before .before .put-bytes .ensures .0, c .before .before .before .before .before .before .before .before .put-bytes .kept .1 .0, c .before .before .before .before .put-runs .ensures .0, c .before .before .before .before .put-runs .kept .1 .1 .0, runs-few t (a .from), answered-few (runsOn ls) z, length-map ls runOn),
     )
 
 same-length : tie.Need-same-length
