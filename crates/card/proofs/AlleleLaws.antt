@@ -7,7 +7,10 @@
 --     reference-shown, reference-same, first-shown, second-shown
 --                            where the companion's number is 0: allele 0 is the part of the reference at POS as long as REF and spells REF's bases,
 --                            alleles 1 and 2 are the ALTs of the entry's line
+--     reference-begins, first-begins, second-begins
+--                            there too: allele 0 begins in the reference at POS, alleles 1 and 2 in the text where the ALTs do
 --     shown-empty-iff        the empty part is shown exactly where the companion's number is not 0
+--     refused-begins         and then begins where the reference does
 -- Assumes nothing.
 use mathlib.Core.Bool.{Bool, true, false, _&&_}
 use mathlib.Core.List.{List, []}
@@ -26,8 +29,9 @@ use Rattle.bases.proofs.TestLaws.{both}
 use Rattle.bases.specs.Pick.{pick}
 use Rattle.vcf.specs.declared.entry.Entry.{Entry}
 use Rattle.vcf.specs.Allele.{longestAllele, isAllele?, firstAlt, twoAlts?, secondAlt}
+use Rattle.vcf.specs.Bytes.{COMMA, until}
 use Rattle.vcf.specs.Entry.{lineAt, entryOf, recordAt}
-use Rattle.vcf.specs.Field.{field}
+use Rattle.vcf.specs.Field.{fieldAt, field}
 use Rattle.vcf.specs.Record.{posOn}
 use Rattle.vcf.specs.List.{longestText}
 use Rattle.vcf.proofs.JudgeLaws.{accepted-zero, text-fits}
@@ -35,7 +39,7 @@ use Rattle.vcf.proofs.PartLaws.{first-within, second-within, first-bytes, secon
 use Rattle.vcf.proofs.RecordLineLaws.{first-allele, second-allele}
 use Rattle.card.specs.declared.allele.Shown.{Shown}
 use Rattle.card.specs.declared.refusal.Refusal.{Refusal}
-use Rattle.card.specs.Allele.{entryNumber, alleleRefusal, ofReference, ofText, shownOf, refusedShown, shown, bytesShown}
+use Rattle.card.specs.Allele.{entryNumber, alleleRefusal, ofReference, ofText, shownOf, refusedShown, shown, bytesShown, ptrShown}
 use Rattle.card.specs.Refusal.{noRefusal}
 use Rattle.card.proofs.RefusalLaws.{NoneHolds, First, first-none, none-holds, refused-iff, answered-iff}
 use Rattle.card.proofs.ShownLaws.{alleleChecks, checks-numbered, shown-refused, Answered, answered}
@@ -124,6 +128,16 @@ module _ (reference name text : List ℕ) (i k : ℕ) where
     pub second-shown : k ≡ 2 → bytesShown reference text (shown reference name text i k) ≡ secondAlt (field 4 line)
     second-shown e = ap (bytesShown reference text) (shown-two e) ∙ second-bytes text (recordAt text i) inside (a .line .ten) (two e)
 
+    module _ (r t : ℕ × ℕ) where
+      pub reference-begins : k ≡ 0 → ptrShown r t (shown reference name text i k) ≡ (r .0, posOn line - 1 + r .1)
+      reference-begins e = ap (ptrShown r t) (shown-zero e)
+
+      pub first-begins : k ≡ 1 → ptrShown r t (shown reference name text i k) ≡ (t .0, recordAt text i + fieldAt 4 line + t .1)
+      first-begins e = ap (ptrShown r t) (shown-one e)
+
+      pub second-begins : k ≡ 2 → ptrShown r t (shown reference name text i k) ≡ (t .0, recordAt text i + fieldAt 4 line + until COMMA (field 4 line) + 1 + t .1)
+      second-begins e = ap (ptrShown r t) (shown-two e)
+
     there-fits : Fits (shown reference name text i k)
     there-fits = ⊎-elim
         (λ e. rw (shown-zero e) (a .line .within))
@@ -166,3 +180,6 @@ module _ (reference name text : List ℕ) (i k : ℕ) where
     λ e z. let h = rw e at (there-some z) in omega arith,
     λ n. rw (refused-shows n),
   )
+
+  pub refused-begins : alleleRefusal reference name text i k .number ≢ 0 → (r t : ℕ × ℕ) → ptrShown r t (shown reference name text i k) ≡ r
+  refused-begins n r t = let e : 0 + r .1 ≡ r .1 = omega arith in ap (ptrShown r t) (refused-shows n) ∙ ap (λ (o : ℕ). (r .0, o)) e

@@ -1,10 +1,11 @@
 -- Each contract determines its result: any two results that it allows for the same arguments are equal. Of `allele`, whose result is a part of a lent
--- slice, the bytes are. Where a function is lent what it can write, `..-leaves` says the same of what is left there.
+-- slice, the bytes and the pointer are: a reference has nothing else that a program can see. Where a function is lent what it can write, `..-leaves`
+-- says the same of what is left there.
 -- Assumes nothing.
 use mathlib.Core.List.{List}
 use mathlib.Core.Path.{sym, _∙_}
 use Prim.Native.Nat.{ℕ}
-use denote.Ref.{now}
+use denote.Ref.{now, ptr}
 use Rattle.bases.proofs.Determines.{OneResult, OneSeen, OneLeft}
 use Rattle.card.proofs.allele.allele.Kinds as allele-kinds
 use Rattle.card.proofs.allele.allele.Reads as allele
@@ -33,8 +34,8 @@ allele-shown-determines κs a z z′ e e′ p q = p ∙ sym q
 pub allele-refusal-determines : OneResult 3 allele-refusal-kinds.ps allele-refusal-kinds.r allele-refusal.Post
 allele-refusal-determines κs a z z′ e e′ p q = p ∙ sym q
 
-pub allele-determines : OneSeen 2 allele-kinds.ps allele-kinds.r allele.Post (List ℕ) (λ κs z. now z)
-allele-determines κs a z z′ e e′ p q = p ∙ sym q
+pub allele-determines : OneSeen 2 allele-kinds.ps allele-kinds.r allele.Post (List ℕ × (ℕ × ℕ)) (λ κs z. (now z, ptr z))
+allele-determines κs a z z′ e e′ p q = λ i. ((p .0 ∙ sym (q .0)) i, (p .1 ∙ sym (q .1)) i)
 
 pub refuse-determines : OneResult 0 refuse-kinds.ps refuse-kinds.r refuse.Post
 refuse-determines κs a z z′ e e′ p q = p ∙ sym q

@@ -3,11 +3,12 @@
 -- Assumes nothing: these are definitions.
 use mathlib.Core.Bool.{Bool, true, false, _||_}
 use mathlib.Core.List.{List, [], _∷_}
-use Prim.Native.Nat.{ℕ, _-_}
+use Prim.Native.Nat.{ℕ, _+_, _-_}
 use lib.Dec.{eqb, leb, ltb}
 use lib.ListN.{length, getD}
 use Rattle.bases.specs.Pick.{pick}
 use Rattle.vcf.specs.declared.entry.Entry.{Entry}
+use Rattle.vcf.specs.declared.entry.Part.{Part}
 use Rattle.vcf.specs.Entry.{part, bytesOf, entryOf, entriesOf}
 use Rattle.card.specs.declared.allele.Shown.{Shown}
 use Rattle.card.specs.declared.refusal.Refusal.{Refusal}
@@ -55,3 +56,12 @@ shown reference name text i k =
 -- The bytes that are shown.
 abbrev pub bytesShown : List ℕ → List ℕ → Shown → List ℕ
 bytesShown reference text s = pick (s .text) (bytesOf text (s .part)) (bytesOf reference (s .part))
+
+-- Where a part of a slice begins. A pointer is a block of memory and an offset there.
+abbrev pub ptrOf : ℕ × ℕ → Part → ℕ × ℕ
+ptrOf slice p = (slice .0, p .at + slice .1)
+
+-- Where what is shown begins, by where the reference and the text do: allele 0 in the reference, allele 1 or 2 in the text; where that is
+-- refused, at the start of the reference.
+abbrev pub ptrShown : ℕ × ℕ → ℕ × ℕ → Shown → ℕ × ℕ
+ptrShown reference text s = pick (s .text) (ptrOf text (s .part)) (ptrOf reference (s .part))

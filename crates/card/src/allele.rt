@@ -1,7 +1,8 @@
 // The calls `allele` and `allele_refusal`: an allele of an entry, shown as a part of the reference or of the list's text.
 ghost use mathlib.Core.Path.{_≡_};
 ghost use Prim.Native.Nat.{_≤_};
-ghost use Rattle.card.specs.Allele.{alleleRefusal, shownOf, refusedShown, shown, bytesShown};
+ghost use denote.Ref.{ptr};
+ghost use Rattle.card.specs.Allele.{alleleRefusal, shownOf, refusedShown, shown, bytesShown, ptrShown};
 ghost use Rattle.card.specs.Refusal.{refusal};
 use crate::refusal::Refusal;
 use bases::place::place_of;
@@ -114,7 +115,10 @@ pub fn allele<'a>(
     entry: usize,
     allele: usize,
 ) -> &'a [u8]
-    ensures { λ r. ⌜ now r ≡ bytesShown (now (reference .entry)) (now (text .entry)) (shown (now (reference .entry)) (now (name .entry)) (now (text .entry)) entry allele) ⌝ }
+    ensures { λ r. let s = shown (now (reference .entry)) (now (name .entry)) (now (text .entry)) entry allele in ⌜
+        (now r ≡ bytesShown (now (reference .entry)) (now (text .entry)) s)
+        × (ptr r ≡ ptrShown (ptr (reference .entry)) (ptr (text .entry)) s)
+        ⌝ }
 {
     let s = allele_shown(reference, name, text, entry, allele);
     let part = s.part;

@@ -3,6 +3,7 @@
 --     allele-answer-number             its number is that of the companion `allele_refusal`
 --     allele-answer-refusal            where that is not 0, its first three numbers are the companion's, and the fourth is 0
 --     allele-answer-bytes              its list, line and value are the slice, the start and the length of the bytes that `allele` shows
+--     allele-answer-begins             where its number is 0, what `allele` shows begins in that slice at that start
 -- Assumes nothing.
 use mathlib.Core.Bool.{Bool, true, false}
 use mathlib.Core.List.{List}
@@ -14,9 +15,10 @@ use borrow.Author.Tests.{eq-eqb, ne-eqb}
 use lib.Dec.{eqb}
 use lib.ListN.{take, drop}
 use Rattle.bases.specs.Pick.{pick}
+use Rattle.vcf.specs.Entry.{part}
 use Rattle.card.specs.declared.allele.Shown.{Shown}
 use Rattle.card.specs.declared.refusal.Refusal.{Refusal}
-use Rattle.card.specs.Allele.{alleleRefusal, shown, bytesShown}
+use Rattle.card.specs.Allele.{alleleRefusal, shown, bytesShown, ptrOf, ptrShown}
 use Rattle.card.proofs.AlleleLaws.{shown-refusal, shown-empty-iff}
 use Rattle.card.specs.declared.answer.Answer.{Answer}
 use Rattle.card.specs.Answer.{answer, refusedAnswer}
@@ -62,3 +64,14 @@ module _ (reference name text : List ℕ) (i k : ℕ) where
           let s = shown reference name text i k in
           rw (answer-there s (ap (λ (r : Refusal). r .number) (shown-refusal reference name text i k) ∙ e)) (pick-part (s .text) (s .part .at) (s .part .len))
       go (no n) = rw (allele-answer-refusal n) (shown-empty-iff reference name text i k .1 n)
+
+  pub allele-answer-begins : answered .number ≡ 0 → (r t : ℕ × ℕ)
+      → ptrShown r t (shown reference name text i k) ≡ ptrOf (pick (eqb (answered .list) 1) t r) (part (answered .line) (answered .value))
+  allele-answer-begins e r t = rw (answer-there s (sym (answer-number s) ∙ e)) (pick-ptr (s .text) (s .part .at) (s .part .len))
+    where
+      s : Shown
+      s = shown reference name text i k
+
+      pick-ptr : (b : Bool) (at len : ℕ) → pick b (ptrOf t (part at len)) (ptrOf r (part at len)) ≡ ptrOf (pick (eqb (pick b 1 0) 1) t r) (part at len)
+      pick-ptr true at len = refl
+      pick-ptr false at len = refl

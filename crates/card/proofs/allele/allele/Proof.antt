@@ -1,5 +1,5 @@
--- `card::allele::allele` meets its contract: the part that `allele_shown` tells is a part of the slice that it tells. Assumes nothing.
-use mathlib.Core.Path.{_≡_}
+-- `card::allele::allele` meets its contract: the part that `allele_shown` tells is a part of the slice that it tells, and begins there. Assumes nothing.
+use mathlib.Core.Path.{_≡_, refl}
 use Prim.Native.Nat.{_+_, _-_}
 use native.Mathlib.Omega.{arith}
 use borrow.Author.Needs.{needs}
@@ -56,13 +56,13 @@ returns : tie.Need-returns
 returns c =
     let s = c .before .before .before .before .allele-shown .result in
     let n : s .part .at + s .part .len - s .part .at ≡ s .part .len = omega arith in
-    rw (n, ← c .before .before .before .before .allele-shown .ensures, c .before .if1 .taken)
+    rw (n, ← c .before .before .before .before .allele-shown .ensures, c .before .if1 .taken) (refl, refl)
 
 returns-2 : tie.Need-returns-2
 returns-2 c =
     let s = c .before .before .before .before .allele-shown .result in
     let n : s .part .at + s .part .len - s .part .at ≡ s .part .len = omega arith in
-    rw (n, ← c .before .before .before .before .allele-shown .ensures, c .before .if1 .left)
+    rw (n, ← c .before .before .before .before .allele-shown .ensures, c .before .if1 .left) (refl, refl)
 
 pub allele-spec : {M : Type 1} → statement M
 allele-spec =
