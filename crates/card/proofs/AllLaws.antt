@@ -1,5 +1,6 @@
 -- `mark_all` leaves what `plan` and then `mark` of each cluster leave.
 --     all-refused, all-given      what is answered and left, by the refusal
+--     all-roomy                   where it is answered there is a mark for every entry
 --     begins-itself               the plan that is written is the plan
 --     one-by-one, all-of-them     asked for one by one, the clusters' marks are those that `mark_all` writes
 -- Assumes nothing.
@@ -52,7 +53,8 @@ module _ (reference name first second : List ℕ) (plan : List Cluster) (marks :
     cs = clustersOf reference first second
 
     pub all-given : (allAnswered reference name first second (length plan) (length marks)
-        ≡ allMarked (refusedAnswer (allRefusal reference name first second (length plan) (length marks))) (length (planOf reference first second)) (totalScore reference (clustersOf reference first second)))
+        ≡ allMarked (refusedAnswer (allRefusal reference name first second (length plan) (length marks)))
+        (length (planOf reference first second)) (totalScore reference (clustersOf reference first second)))
         × (allPlan reference name first second plan marks ≡ put plan 0 (planOf reference first second))
         × (allBytes reference name first second plan marks ≡ put marks 0 (allMarks reference (clustersOf reference first second)))
     all-given =
@@ -74,8 +76,8 @@ module _ (reference name first second : List ℕ) (plan : List Cluster) (marks :
     abbrev these : ℕ → List ℕ
     these n = join (map (marksOf reference) (take n (clustersOf reference first second)))
 
-    roomy : leastRoom ≤ length marks
-    roomy =
+    pub all-roomy : leastRoom ≤ length marks
+    all-roomy =
         let small = lists-read reference name first (smallRoom? (length plan) (length marks)) second z .0 .roomy in
         ltb-false (length marks) leastRoom (neither (ltb (length plan) leastRoom) (ltb (length marks) leastRoom) small .1)
 
@@ -103,7 +105,7 @@ module _ (reference name first second : List ℕ) (plan : List Cluster) (marks :
     one-by-one zero h = sym (put-none marks 0)
     one-by-one (suc n) h =
         let before = one-by-one n (omega arith) in
-        let same : length (put marks 0 (these n)) ≡ length marks = put-length marks 0 (omega arith) (these n) (omega (arith, within n, roomy)) in
+        let same : length (put marks 0 (these n)) ≡ length marks = put-length marks 0 (omega arith) (these n) (omega (arith, within n, all-roomy)) in
         let z′ : allRefusal reference name first second (length (put plan 0 (planOf reference first second))) (length (put marks 0 (these n))) .number ≡ 0 = rw (same, plan-long) z in
         let step = mark-read reference name first second (put plan 0 (planOf reference first second)) n (put marks 0 (these n)) z′ .1 in
         let first-n : firstEntry cs n ≡ 0 + length (these n) = sym (zero-add (length (these n)) ∙ join-long (marksOf reference) (marks-long reference) (marks-none reference) cs n) in

@@ -1,20 +1,19 @@
 -- The marks of the clusters, and those of the best pair over the two whole lists.
 --     marks-long, marks-none        a cluster has one mark an entry
---     whole-long, clusters-long, marks-all
+--     all-long, whole-long, clusters-long, marks-all
 --                         the clusters together have as many entries as the two lists, and as many marks
 --     entries-most, plan-few        accepted lists together have at most 1,024 entries, hence at most as many clusters
---     mark-best           entry i of a decided cluster has the mark that the best pair over the two whole lists gives it
---     mark-question, mark-only      each entry of an undecided cluster has `?`, and no other entry has
+--     mark-best           entry i of a cluster of at most 12 has the mark that the best pair over the two whole lists gives it
+--     mark-question, mark-only      each entry of a larger cluster has `?`, and no other entry has
 -- Assumes nothing.
 use mathlib.Core.Bool.{Bool, true, false}
 use mathlib.Core.List.{List, [], _∷_, _++_, map, map-append}
 use mathlib.Core.Path.{_≡_, refl, sym, ap, _∙_}
 use Prim.Native.Nat.{ℕ, zero, suc, _+_, _≤_, _<_}
 use native.Mathlib.Omega.{arith}
-use lib.Dec.{T}
+use borrow.Author.Tests.{leb-false, le-leb, lt-leb}
 use lib.ListN.{length, getD, replicate, length-append, length-replicate, getD-replicate}
 use Rattle.bases.specs.Letter.{basesOf}
-use Rattle.bases.proofs.TestLaws.{is-true}
 use Rattle.bases.specs.Pick.{pick}
 use Rattle.clusters.specs.Marks.{QUESTION, decided?, marksOf, clustersOf, firstEntry, clusterAt, allMarks}
 use Rattle.clusters.specs.Merged.{mergedItems, mergedVariants}
@@ -26,6 +25,7 @@ use Rattle.clusters.proofs.FirstLaws.{total}
 use Rattle.donors.specs.Apart.{All}
 use Rattle.clusters.proofs.JoinLaws.{joined-at}
 use Rattle.donors.specs.Choice.{Choice, plus, minus, out, Variant, cardRules}
+use Rattle.donors.specs.Table.{most}
 use Rattle.matching.specs.Answer.{byteOf}
 use Rattle.matching.specs.Card.{cardScoring, cardFinite, cardBest}
 use Rattle.matching.specs.Cut.{join}
@@ -78,7 +78,7 @@ module _ (reference : List ℕ) where
   pub marks-none : marksOf reference [] ≡ []
   marks-none = empty-of (marksOf reference []) (marks-long [])
 
-  all-long : (cs : List (List Variant)) → length (allMarks reference cs) ≡ length (join cs)
+  pub all-long : (cs : List (List Variant)) → length (allMarks reference cs) ≡ length (join cs)
   unfolding join
   all-long [] = refl
   all-long (c ∷ cs) = omega (arith, length-append (marksOf reference c) (allMarks reference cs), length-append c (join cs), marks-long c, all-long cs)
@@ -117,7 +117,8 @@ module _ (reference : List ℕ) where
           accepted-few reference name second accepted2,
         )
 
-    whole : map byteOf (cardBest (basesOf reference) (mergedVariants reference first second)) ≡ join (map (λ (c : List Variant). map byteOf (cardBest (basesOf reference) c)) (clustersOf reference first second))
+    whole : map byteOf (cardBest (basesOf reference) (mergedVariants reference first second))
+        ≡ join (map (λ (c : List Variant). map byteOf (cardBest (basesOf reference) c)) (clustersOf reference first second))
     whole =
         ap (map byteOf) (clusters-best reference name first second accepted1 accepted2)
         ∙ map-join byteOf (map (cardBest (basesOf reference)) cs)
@@ -127,20 +128,20 @@ module _ (reference : List ℕ) where
       abbrev c : List Variant
       c = clusterAt (clustersOf reference first second) k
 
-      pub mark-best : T (decided? (clusterAt (clustersOf reference first second) k))
+      pub mark-best : length (clusterAt (clustersOf reference first second) k) ≤ most
           → getD (marksOf reference (clusterAt (clustersOf reference first second) k)) i 0
           ≡ getD (map byteOf (cardBest (basesOf reference) (mergedVariants reference first second))) (firstEntry (clustersOf reference first second) k + i) 0
-      mark-best t =
-          rw (is-true (decided? c) t)
+      mark-best small =
+          rw (le-leb (length c) most small)
           (sym (ap (λ (l : List ℕ). getD l (firstEntry cs k + i) 0) whole
           ∙ joined-at (λ (c : List Variant). map byteOf (cardBest (basesOf reference) c)) (bytes-long (basesOf reference)) (empty-of _ (bytes-long (basesOf reference) [])) cs k i 0 h))
 
-      pub mark-question : decided? (clusterAt (clustersOf reference first second) k) ≡ false → getD (marksOf reference (clusterAt (clustersOf reference first second) k)) i 0 ≡ QUESTION
-      mark-question e = rw e (getD-replicate (length c) i QUESTION 0 h)
+      pub mark-question : most < length (clusterAt (clustersOf reference first second) k) → getD (marksOf reference (clusterAt (clustersOf reference first second) k)) i 0 ≡ QUESTION
+      mark-question large = rw (lt-leb (length c) most large) (getD-replicate (length c) i QUESTION 0 h)
 
-      pub mark-only : getD (marksOf reference (clusterAt (clustersOf reference first second) k)) i 0 ≡ QUESTION → decided? (clusterAt (clustersOf reference first second) k) ≡ false
+      pub mark-only : getD (marksOf reference (clusterAt (clustersOf reference first second) k)) i 0 ≡ QUESTION → most < length (clusterAt (clustersOf reference first second) k)
       mark-only = go (decided? c) refl
         where
-          go : (t : Bool) → decided? c ≡ t → getD (pick t (map byteOf (cardBest (basesOf reference) c)) (replicate (length c) QUESTION)) i 0 ≡ QUESTION → decided? c ≡ false
+          go : (t : Bool) → decided? c ≡ t → getD (pick t (map byteOf (cardBest (basesOf reference) c)) (replicate (length c) QUESTION)) i 0 ≡ QUESTION → most < length c
           go true e q = absurd (byte-not (cardBest (basesOf reference) c) i (omega (arith, best-long (basesOf reference) c)) q)
-          go false e q = e
+          go false e q = leb-false (length c) most e

@@ -1,3 +1,4 @@
+pub mod AfterLaws
 pub mod AllLaws
 pub mod AllSteps
 pub mod AlleleLaws
@@ -10,6 +11,7 @@ pub mod CountExamples
 pub mod CountLaws
 pub mod DemandLaws
 pub mod Determines
+pub mod EntryLaws
 pub mod Examples
 pub mod ListSteps
 pub mod ListsLaws
