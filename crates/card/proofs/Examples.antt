@@ -1,10 +1,12 @@
 -- Document 01's examples 1 to 12 hold: one statement over the definitions, computed.
 -- Assumes nothing.
+use mathlib.Core.Bool.{true}
 use mathlib.Core.Path.{_≡_, refl}
 use Rattle.bases.specs.Letter.{among?, letterOf, allLetters?}
 use Rattle.bases.specs.Period.{anyPeriod?}
+use Rattle.bases.specs.Reference.{isReference?}
 use Rattle.bases.specs.Same.{agree?}
-use Rattle.clusters.specs.Marks.{clustersOf, allMarks}
+use Rattle.clusters.specs.Marks.{clustersOf, allMarks, totalScore}
 use Rattle.clusters.specs.Merged.{weave, merged}
 use Rattle.clusters.specs.Plan.{rest, plan, recordsFrom, planOf}
 use Rattle.donors.specs.Apart.{All, chain?}
@@ -26,18 +28,29 @@ use Rattle.vcf.specs.Header.{headerWrong?}
 use Rattle.vcf.specs.List.{linesOf, judgeLines, judgeText}
 use Rattle.vcf.specs.Pos.{allDigits?, isPos?, valueFrom}
 use Rattle.vcf.specs.Row.{firstRow}
-use Rattle.card.specs.Examples.{name, Example, normal, marks, table}
+use Rattle.card.specs.Examples.{ascii, chr1, Example, normal, marks, table}
 
--- The texts are accepted, and the definitions give what the example says.
+-- The reference and the texts are accepted, and the definitions give what the example says.
 abbrev pub Holds : Example → Type 0
-Holds (normal reference text written) = (judgeText reference name text .number ≡ 0) × (writtenText reference text ≡ written)
-Holds (marks reference first second plan bytes) =
-    (judgeText reference name first .number ≡ 0)
-    × (judgeText reference name second .number ≡ 0)
-    × (planOf reference first second ≡ plan)
-    × (allMarks reference (clustersOf reference first second) ≡ bytes)
+Holds (normal spelt text written) =
+    let reference = ascii spelt in
+    (isReference? reference ≡ true) × (judgeText reference chr1 text .number ≡ 0) × (writtenText reference text ≡ written)
+Holds (marks spelt first second records bytes total) =
+    let reference = ascii spelt in
+    (isReference? reference ≡ true)
+    × (judgeText reference chr1 first .number ≡ 0)
+    × (judgeText reference chr1 second .number ≡ 0)
+    × (planOf reference first second ≡ records)
+    × (allMarks reference (clustersOf reference first second) ≡ ascii bytes)
+    × (totalScore reference (clustersOf reference first second) ≡ total)
+
+-- Three equations that compute, and six.
+three : {A B C : Type 0} {a : A} {b : B} {c : C} → (a ≡ a) × (b ≡ b) × (c ≡ c)
+three = (refl, refl, refl)
+
+six : {A B C D E F : Type 0} {a : A} {b : B} {c : C} {d : D} {e : E} {f : F} → (a ≡ a) × (b ≡ b) × (c ≡ c) × (d ≡ d) × (e ≡ e) × (f ≡ f)
+six = (refl, refl, refl, refl, refl, refl)
 
 pub examples : All Holds table
-unfolding among? letterOf allLetters? anyPeriod? agree? weave merged rest plan recordsFrom chain? donorFrom edits score every? allowed? bestOf join first? better bestOver search run all? shortest normalEntry digitsOf writtenLine putLine writtenLines textOf writtenText altsWrong? until headerBytes entriesFrom full? skip copiesWrong? headerWrong? linesOf judgeLines judgeText allDigits? isPos? valueFrom firstRow
-examples =
-    ((refl, refl, refl, refl), ((refl, refl), ((refl, refl), ((refl, refl), ((refl, refl), ((refl, refl, refl, refl), ((refl, refl, refl, refl), ((refl, refl, refl, refl), ((refl, refl, refl, refl), ((refl, refl, refl, refl), ((refl, refl, refl, refl), ((refl, refl, refl, refl), ((refl, refl, refl, refl), ((refl, refl, refl, refl), tt))))))))))))))
+unfolding among? letterOf allLetters? anyPeriod? agree? weave merged rest plan recordsFrom totalScore chain? donorFrom edits score every? allowed? bestOf join first? better bestOver search run all? shortest normalEntry digitsOf writtenLine putLine writtenLines textOf writtenText altsWrong? until headerBytes entriesFrom full? skip copiesWrong? headerWrong? linesOf judgeLines judgeText allDigits? isPos? valueFrom firstRow
+examples = (six, (three, (three, (three, (three, (six, (six, (six, (six, (six, (six, (six, (six, (six, tt))))))))))))))

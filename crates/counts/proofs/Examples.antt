@@ -3,12 +3,13 @@
 -- Assumes nothing.
 use mathlib.Core.List.{List, [], _∷_}
 use mathlib.Core.Path.{_≡_, refl}
-use Prim.Native.Nat.{ℕ, _+_}
+use Prim.Native.Nat.{ℕ}
+use Prim.Native.String.{String}
 use lib.ListN.{replicate}
 use Rattle.bases.specs.Letter.{among?, letterOf, allLetters?}
 use Rattle.bases.specs.Period.{anyPeriod?}
 use Rattle.bases.specs.Same.{agree?}
-use Rattle.card.specs.Examples.{A, C, G, T, text, hom}
+use Rattle.card.specs.Examples.{ascii, text, hom, snp}
 use Rattle.card.specs.Refusal.{firstRefusal}
 use Rattle.clusters.specs.Counts.{howMany, ownMarks}
 use Rattle.clusters.specs.Merged.{weave, merged}
@@ -23,7 +24,7 @@ use Rattle.matching.specs.Cut.{join}
 use Rattle.matching.specs.Search.{first?, better, bestOver, search}
 use Rattle.normal.specs.Written.{digitsOf}
 use Rattle.vcf.specs.Allele.{altsWrong?}
-use Rattle.vcf.specs.Bytes.{LF, TAB, until}
+use Rattle.vcf.specs.Bytes.{until}
 use Rattle.vcf.specs.Entry.{headerBytes, entriesFrom}
 use Rattle.vcf.specs.Field.{skip, full?}
 use Rattle.vcf.specs.Genotype.{copiesWrong?}
@@ -33,22 +34,13 @@ use Rattle.vcf.specs.Pos.{allDigits?, valueFrom, isPos?}
 use Rattle.vcf.specs.Row.{firstRow}
 use Rattle.counts.specs.Counted.{countedText}
 
--- The digits of the counts.
-abbrev digits : ℕ → ℕ → ℕ → ℕ → ℕ → ℕ → List ℕ
-digits a b c d e f = (48 + a) ∷ TAB ∷ (48 + b) ∷ TAB ∷ (48 + c) ∷ TAB ∷ (48 + d) ∷ TAB ∷ (48 + e) ∷ TAB ∷ (48 + f) ∷ LF ∷ []
-
--- POS 2, A to C, 1/1
-abbrev snp : List ℕ
-snp = hom 2 (A ∷ []) (C ∷ [])
-
 -- What is printed for three files, and what it should be.
-abbrev Prints : List ℕ → List ℕ → List ℕ → List ℕ → Type 0
-Prints file first second printed = countedText file first second ≡ printed
+abbrev Prints : String → List ℕ → List ℕ → String → Type 0
+Prints file first second printed = countedText (ascii file) first second ≡ ascii printed
 
 pub examples :
-    Prints (T ∷ G ∷ C ∷ C ∷ G ∷ T ∷ LF ∷ []) (text (hom 2 (G ∷ C ∷ C ∷ G ∷ []) (C ∷ C ∷ G ∷ A ∷ []) ∷ []))
-    (text (hom 1 (T ∷ G ∷ []) (T ∷ []) ∷ hom 5 (G ∷ []) (G ∷ A ∷ []) ∷ [])) (digits 1 0 0 2 0 0)
-    × Prints (G ∷ A ∷ C ∷ LF ∷ []) (text (replicate 7 snp)) (text (replicate 6 snp)) (digits 0 0 7 0 0 6)
-    × Prints [] [] [] (114 ∷ 101 ∷ 102 ∷ 117 ∷ 115 ∷ 101 ∷ 100 ∷ TAB ∷ 49 ∷ TAB ∷ 48 ∷ TAB ∷ 48 ∷ LF ∷ [])
+    Prints "TGCCGT\n" (text (hom "2" "GCCG" "CCGA" ∷ [])) (text (hom "1" "TG" "T" ∷ hom "5" "G" "GA" ∷ [])) "1\t0\t0\t2\t0\t0\n"
+    × Prints "GAC\n" (text (replicate 7 snp)) (text (replicate 6 snp)) "0\t0\t7\t0\t0\t6\n"
+    × Prints "" [] [] "refused\t1\t0\t0\n"
 unfolding among? letterOf allLetters? anyPeriod? agree? altsWrong? allDigits? valueFrom isPos? copiesWrong? skip full? linesOf judgeLines judgeText until headerWrong? firstRow headerBytes entriesFrom digitsOf chain? edits donorFrom over first? better bestOver search score join every? allowed? bestOf weave merged rest plan recordsFrom firstRefusal howMany ownMarks countedText
 examples = (refl, refl, refl)
