@@ -10,9 +10,9 @@ use second::drawn::sizes::{sized_list, sized_reference, sized_text};
 use second::drive::case::{Call, Case};
 use second::drive::draw::{draw, Asked};
 use second::drive::frame::Frames;
+use second::drive::kind::{kinds, Kind};
 use second::drive::tally::Tally;
-use second::refusal::NO_ALLELE;
-use second::Refusal;
+use second::{Cluster, Refusal};
 use std::collections::BTreeSet;
 
 fn read(list: &Drawn) -> Result<usize, Refusal> {
@@ -61,15 +61,15 @@ fn two_lists_as_drawn_are_accepted_on_one_reference() {
     }
 }
 
-fn cases(asked: Asked) -> impl Iterator<Item = Case> {
-    (0..).flat_map(move |number| draw(asked, 1, number)).take(10_000)
+fn cases(asked: Asked, count: usize) -> impl Iterator<Item = Case> {
+    (0..).flat_map(move |number| draw(asked, 1, number)).take(count)
 }
 
 #[test]
 fn every_answer_occurs_and_no_other_counts_as_the_same() {
     for asked in [Asked::Allele, Asked::Normal, Asked::Plan, Asked::Mark, Asked::Count] {
         let (mut same, mut changed) = (Tally::default(), Tally::default());
-        for (number, case) in cases(asked).enumerate() {
+        for (number, case) in cases(asked, 10_000).enumerate() {
             let mut other = case.expected.clone();
             let (left, values) = (other.left.len(), other.answer.values.len());
             match number % 2 {
@@ -88,10 +88,25 @@ fn every_answer_occurs_and_no_other_counts_as_the_same() {
 }
 
 #[test]
-fn changes_by_bytes_come_upon_answers_and_every_refusal() {
-    let numbers: BTreeSet<u32> =
-        cases(Asked::Mutated).map(|case| case.expected.answer.number).collect();
-    assert_eq!(numbers, (0..=NO_ALLELE).collect());
+fn changes_by_bytes_come_upon_every_answer_of_every_call_and_no_other() {
+    let seen: BTreeSet<Kind> = cases(Asked::Mutated, 40_000).map(|case| Kind::of(&case)).collect();
+    assert_eq!(seen, kinds(Asked::Mutated).into_iter().collect());
+}
+
+#[test]
+fn changed_lists_are_counted_with_their_own_marks_and_with_others() {
+    let (mut own, mut others, mut plan) = (0, 0, vec![Cluster::default(); 1_024]);
+    for Case { reference, name, call, .. } in cases(Asked::Mutated, 10_000) {
+        let Call::Count { texts: [one, two], marks } = call else { continue };
+        let mut marked = marks.clone();
+        let all = second::mark_all(&reference, &name, &one, &two, &mut plan, &mut marked);
+        match all {
+            Ok((1.., _)) if marked == marks => own += 1,
+            Ok((1.., _)) => others += 1,
+            _ => {}
+        }
+    }
+    assert!(own > 100 && others > 100, "{own} and {others}");
 }
 
 #[test]

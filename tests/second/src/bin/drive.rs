@@ -1,7 +1,7 @@
 //! `drive CALL COUNT SEED COMMAND..` draws COUNT cases of CALL, which is allele, normal, plan, mark, count or
 //! mutated, from SEED, has the driver COMMAND make the calls of the C library, and holds each answer and
 //! all memory lent to this package's own. A run of mark is made of rows of calls on one buffer, their
-//! plans among them; a run of mutated of all calls but count, with bytes changed in what they are lent.
+//! plans among them; a run of mutated of all calls, with bytes changed in what they are lent.
 
 use second::drive::draw::{draw, Asked};
 use second::drive::pipe::drive;

@@ -41,9 +41,9 @@ pub fn kinds(asked: Asked) -> Vec<Kind> {
     answered.chain(of_the_call).chain(of_a_list).map(kind).collect()
 }
 
-/// Those of every call, but for a plan of as many clusters as two lists can have entries.
+/// Those of every call, but for as many entries as two lists can have.
 fn kinds_of_small_lists() -> Vec<Kind> {
-    let calls = [Asked::Allele, Asked::Normal, Asked::Plan, Asked::Mark];
+    let calls = [Asked::Allele, Asked::Normal, Asked::Plan, Asked::Mark, Asked::Count];
     calls.into_iter().flat_map(kinds).filter(|kind| kind.what != "full").collect()
 }
 

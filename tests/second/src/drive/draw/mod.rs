@@ -4,7 +4,7 @@
 //! - `spoil` breaks what is lent
 //! - `one_list` draws the calls of one list, `allele` and `normal`
 //! - `two_lists` draws `plan` and `count`, `marks` whole rows of calls of `mark` on one buffer
-//! - `mutated` draws rows of all calls but `count`, with bytes changed
+//! - `mutated` draws rows of all calls, with bytes changed
 //! - `folders` draws what programs compare and counts read, `runs` what lot_report reads
 
 pub mod folders;
@@ -26,7 +26,7 @@ pub enum Asked {
     Plan,
     Mark,
     Count,
-    /// All of them but `Count`, with bytes changed in what they are lent.
+    /// All of them, with bytes changed in what they are lent.
     Mutated,
 }
 

@@ -3,7 +3,7 @@
 
 use super::marks::change_plan;
 use super::one_list::{any_allele, room_for};
-use super::two_lists::{any_length, any_plan, TwoLists};
+use super::two_lists::{any_length, any_marks, any_plan, TwoLists};
 use super::{any_room, beyond};
 use crate::card::ENTRIES_MOST;
 use crate::drawn::list::Drawn;
@@ -65,7 +65,7 @@ impl Row {
         let TwoLists { reference, name, texts } = &two;
         let list = random.below(2);
         let text = texts[list].clone();
-        let call = match random.below(4) {
+        let call = match random.below(5) {
             0 => {
                 let (entry, allele) = any_allele(random, self.records[list]);
                 Call::Allele { text, entry, allele }
@@ -79,7 +79,8 @@ impl Row {
                 plan.resize(any_length(random), Cluster::default());
                 Call::Plan { texts: texts.clone(), plan }
             }
-            _ => self.mark(random, &two),
+            3 => self.mark(random, &two),
+            _ => count(random, &two),
         };
         Case::new(reference, name, call)
     }
@@ -120,6 +121,22 @@ impl Row {
         }
         Call::Mark { texts: two.texts.clone(), plan, cluster, marks }
     }
+}
+
+/// With any marks, or with those of the lists as changed and any behind them.
+fn count(random: &mut Random, two: &TwoLists) -> Call {
+    let mut marks = any_marks(random);
+    if random.once_in(2) {
+        write_marks(two, &mut marks);
+    }
+    Call::Count { texts: two.texts.clone(), marks }
+}
+
+/// Writes the marks of these lists; where they are refused, or the marks are too few, none.
+fn write_marks(two: &TwoLists, marks: &mut [u8]) {
+    let TwoLists { reference, name, texts: [first, second] } = two;
+    let plan = &mut [Cluster::default(); ENTRIES_MOST];
+    let _ = crate::mark_all(reference, name, first, second, plan, marks);
 }
 
 /// Writes the plan of these lists; where they are refused, none. Returns the number of clusters.

@@ -67,9 +67,14 @@ pub fn plan(random: &mut Random) -> Case {
     Case::new(&two.reference, &two.name, Call::Plan { texts: two.texts, plan })
 }
 
-/// The marks are marks alone, or some other bytes are among them, or they are any bytes.
 pub fn count(random: &mut Random) -> Case {
     let two = two_lists(random);
+    let marks = any_marks(random);
+    Case::new(&two.reference, &two.name, Call::Count { texts: two.texts, marks })
+}
+
+/// Marks of the least size mostly: marks alone, or some other bytes are among them, or they are any bytes.
+pub fn any_marks(random: &mut Random) -> Vec<u8> {
     let length = any_length(random);
     let mut marks = any_room(random, length);
     let any_in = *random.pick(&[usize::MAX, usize::MAX, 1, 8, 200]);
@@ -78,7 +83,7 @@ pub fn count(random: &mut Random) -> Case {
             *mark = *random.pick(b"+-0?");
         }
     }
-    Case::new(&two.reference, &two.name, Call::Count { texts: two.texts, marks })
+    marks
 }
 
 /// Room for a plan: of the least size mostly, with any records in it.
