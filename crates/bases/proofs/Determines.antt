@@ -16,6 +16,8 @@ use Rattle.bases.proofs.letter.letter.Kinds as letter-kinds
 use Rattle.bases.proofs.letter.letter.Reads as letter
 use Rattle.bases.proofs.letter.all_letters.Kinds as all-letters-kinds
 use Rattle.bases.proofs.letter.all_letters.Reads as all-letters
+use Rattle.bases.proofs.same.is_same.Kinds as is-same-kinds
+use Rattle.bases.proofs.same.is_same.Reads as is-same
 use Rattle.bases.proofs.same.agree.Kinds as agree-kinds
 use Rattle.bases.proofs.same.agree.Reads as agree
 use Rattle.bases.proofs.same.same_bases.Kinds as same-bases-kinds
@@ -30,8 +32,6 @@ use Rattle.bases.proofs.put.put_bytes.Kinds as put-bytes-kinds
 use Rattle.bases.proofs.put.put_bytes.Reads as put-bytes
 use Rattle.bases.proofs.put.put_byte.Kinds as put-byte-kinds
 use Rattle.bases.proofs.put.put_byte.Reads as put-byte
-use Rattle.bases.proofs.period.has_period.Kinds as has-period-kinds
-use Rattle.bases.proofs.period.has_period.Reads as has-period
 use Rattle.bases.proofs.period.has_any_period.Kinds as has-any-period-kinds
 use Rattle.bases.proofs.period.has_any_period.Reads as has-any-period
 
@@ -59,6 +59,9 @@ letter-determines κs a z z′ e e′ p q = p ∙ sym q
 pub all-letters-determines : OneResult 1 all-letters-kinds.ps all-letters-kinds.r all-letters.Post
 all-letters-determines κs a z z′ e e′ p q = p ∙ sym q
 
+pub is-same-determines : OneResult 0 is-same-kinds.ps is-same-kinds.r is-same.Post
+is-same-determines κs a z z′ e e′ p q = p ∙ sym q
+
 pub agree-determines : OneResult 2 agree-kinds.ps agree-kinds.r agree.Post
 agree-determines κs a z z′ e e′ p q = p ∙ sym q
 
@@ -73,9 +76,6 @@ pos-of-determines κs a z z′ e e′ p q = p ∙ sym q
 
 pub place-of-determines : OneResult 0 place-of-kinds.ps place-of-kinds.r place-of.Post
 place-of-determines κs a z z′ e e′ p q = p ∙ sym q
-
-pub has-period-determines : OneResult 1 has-period-kinds.ps has-period-kinds.r has-period.Post
-has-period-determines κs a z z′ e e′ p q = p ∙ sym q
 
 pub has-any-period-determines : OneResult 1 has-any-period-kinds.ps has-any-period-kinds.r has-any-period.Post
 has-any-period-determines κs a z z′ e e′ p q = p ∙ sym q

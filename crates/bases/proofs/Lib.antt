@@ -1,5 +1,6 @@
 pub mod Determines
 pub mod LetterLaws
+pub mod NearestLaws
 pub mod PartLaws
 pub mod PeriodLaws
 pub mod PlaceLaws

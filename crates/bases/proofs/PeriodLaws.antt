@@ -1,5 +1,5 @@
 -- Laws of periods.
---     period-past, period-bases          where q is not below the length; of bytes
+--     period-past                        where q is not below the length
 --     period-iff                         the test for a period says that it is one
 --     any-period-at, any-period-zero, any-period-stop, any-period-more
 --                                        some q in 1 .. g is a period: by g, and for g = 0
@@ -8,7 +8,7 @@
 -- Assumes nothing.
 use mathlib.Core.Bool.{true, false, _||_}
 use mathlib.Core.List.{List}
-use mathlib.Core.Logic.{_↔_, _⊎_, inl, inr, ⊎-elim}
+use mathlib.Core.Logic.{_↔_, inl, inr, ⊎-elim}
 use mathlib.Core.Path.{_≡_, refl, sym, ap, _∙_}
 use Prim.Native.Nat.{ℕ, zero, suc, _+_, _-_, _≤_, _<_}
 use native.Mathlib.Decide.{decLt}
@@ -18,17 +18,13 @@ use lib.Dec.{T}
 use lib.ListN.{length, getD, drop, length-drop}
 use lib.Seq.{getD-drop}
 use Rattle.bases.specs.Letter.{basesOf}
-use Rattle.bases.specs.Same.{agree?}
 use Rattle.bases.specs.Period.{Period, NoPeriod, period?, anyPeriod?}
-use Rattle.bases.proofs.LetterLaws.{bases-length, bases-drop}
+use Rattle.bases.proofs.LetterLaws.{bases-length}
 use Rattle.bases.proofs.SameLaws.{agree-past-second, agree-iff}
 use Rattle.bases.proofs.TestLaws.{either, of-false, is-false}
 
 pub period-past : (s : List ℕ) (q : ℕ) → length s ≤ q → period? q (basesOf s) ≡ true
 period-past s q h = agree-past-second (basesOf s) (basesOf s) q (rw bases-length h)
-
-pub period-bases : (s : List ℕ) (q : ℕ) → agree? (basesOf s) (basesOf (drop q s)) ≡ period? q (basesOf s)
-period-bases s q = rw bases-drop
 
 pub period-iff : (q : ℕ) (y : List ℕ) → T (period? q y) ↔ Period q y
 period-iff q y = (to, of)

@@ -1,4 +1,5 @@
 pub mod Letter
+pub mod Nearest
 pub mod Period
 pub mod Pick
 pub mod Place

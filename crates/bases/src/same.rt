@@ -6,7 +6,7 @@ ghost use Rattle.bases.specs.Same.{agree?, sameBases?};
 use crate::letter::letter;
 
 // Are the two bytes the same base? Two equal bytes are told at once.
-fn is_same(x: u8, y: u8) -> bool
+pub fn is_same(x: u8, y: u8) -> bool
     ensures { λ r. ⌜ r ≡ eqb (letterOf x) (letterOf y) ⌝ }
 {
     if x == y {
