@@ -17,12 +17,14 @@ use native.Mathlib.Omega.{arith}
 use borrow.Author.Tests.{leb-false, ltb-false}
 use lib.Dec.{T, not-T}
 use lib.ListN.{length, drop}
+use Rattle.bases.specs.declared.place.Pos.{Pos}
 use Rattle.bases.proofs.TestLaws.{of-false, both}
 use Rattle.bases.specs.Pick.{pick}
 use Rattle.vcf.specs.Entry.{lineAt, nextLine, headerBytes, recordsAt, entriesFrom, entriesOf, readable?, allReadable?, readableFrom?, skipLines, recordAt}
 use Rattle.vcf.specs.Field.{tenFields?}
 use Rattle.vcf.specs.Header.{headerLine?}
 use Rattle.vcf.specs.List.{linesOf, textWrong?, above, belowAt, nextStage, lineRows, fault, judgeLines, judgeText}
+use Rattle.vcf.specs.Pos.{noPos}
 use Rattle.vcf.specs.Record.{mostRecords, posOn, genotypeWrong?, recordRows}
 use Rattle.vcf.specs.Row.{Row, firstRow}
 use Rattle.vcf.proofs.EntryLaws.{header-stop, header-more, skip-lines-zero, skip-lines-past, skip-lines-more, skip-lines-next}
@@ -37,18 +39,18 @@ entries-length a (l ∷ ls) = ap suc (entries-length (a + length l + 1) ls)
 
 module _ (reference name : List ℕ) where
   -- No row holds on these records, of which the first stands behind so many, the last of those at POS `last`.
-  abbrev pub Records : ℕ → ℕ → List (List ℕ) → Type 0
+  abbrev pub Records : ℕ → Pos → List (List ℕ) → Type 0
   Records records last [] = Unit {0}
   Records records last (l ∷ ls) = NoneHolds (recordRows reference name records last l) × Records (records + 1) (posOn l) ls
 
   -- The same of the lines of a text from a on, behind some records.
   pub record RecordsFrom (t : List ℕ) (a : ℕ) : Type 0 where
     pub records : ℕ
-    pub last : ℕ
+    pub last : Pos
     pub clear : Records records last (linesOf (drop a t))
 
   -- lines that are met below the column line
-  below-records : (records last n : ℕ) (ls : List (List ℕ)) → judgeLines reference name (belowAt records last) n ls .number ≡ 0 → Records records last ls
+  below-records : (records : ℕ) (last : Pos) (n : ℕ) (ls : List (List ℕ)) → judgeLines reference name (belowAt records last) n ls .number ≡ 0 → Records records last ls
   below-records records last n [] e = tt
   below-records records last n (l ∷ ls) e = go (ℕ-discrete (firstRow rows) 0) (below-records (records + 1) (posOn l) (n + 1) ls)
     where
@@ -69,12 +71,12 @@ module _ (reference name : List ℕ) where
 
   -- lines from a on that are met above the records
   above-records : (t : List ℕ) (fuel a n : ℕ) → length t - a ≤ fuel → judgeLines reference name above n (linesOf (drop a t)) .number ≡ 0
-      → Records 0 0 (linesOf (drop (a + headerBytes (linesOf (drop a t))) t))
+      → Records 0 noPos (linesOf (drop (a + headerBytes (linesOf (drop a t))) t))
   above-records t zero a n h e = absurd (above-end t a n (omega arith) e)
   above-records t (suc fuel) a n h e = go (decLt a (length t)) (above-records t fuel (nextLine t a) (n + 1) (omega arith))
     where
       Rest : ℕ → Type 0
-      Rest a = Records 0 0 (linesOf (drop (a + headerBytes (linesOf (drop a t))) t))
+      Rest a = Records 0 noPos (linesOf (drop (a + headerBytes (linesOf (drop a t))) t))
 
       l : List ℕ
       l = lineAt t a
@@ -86,24 +88,24 @@ module _ (reference name : List ℕ) where
       by-line : a < length t → (b : Bool) → headerLine? l ≡ b → judgeLines reference name (nextStage above l) (n + 1) (linesOf (drop (nextLine t a) t)) .number ≡ 0
           → (judgeLines reference name above (n + 1) (linesOf (drop (nextLine t a) t)) .number ≡ 0 → Rest (nextLine t a)) → Rest a
       by-line k true b z r = rw (header-more t a k b) (r (rw (next-header above l refl b) at z))
-      by-line k false b z r = rw (header-stop t a k b) (below-records 0 0 (n + 1) (linesOf (drop (nextLine t a) t)) (rw (next-column above l refl b) at z))
+      by-line k false b z r = rw (header-stop t a k b) (below-records 0 noPos (n + 1) (linesOf (drop (nextLine t a) t)) (rw (next-column above l refl b) at z))
 
       go : Dec (a < length t) → (judgeLines reference name above (n + 1) (linesOf (drop (nextLine t a) t)) .number ≡ 0 → Rest (nextLine t a)) → Rest a
       go (yes k) r = by-line k (headerLine? l) refl (by-row k (ℕ-discrete (firstRow (lineRows reference name above n l)) 0)) r
       go (no k) r = absurd (above-end t a n (omega arith) e)
 
-  accepted-clear : (t : List ℕ) → judgeText reference name t .number ≡ 0 → Records 0 0 (linesOf (drop (recordsAt t) t))
+  accepted-clear : (t : List ℕ) → judgeText reference name t .number ≡ 0 → Records 0 noPos (linesOf (drop (recordsAt t) t))
   unfolding judgeText
   accepted-clear t e = go (textWrong? t) e
     where
-      go : (b : Bool) → pick b (fault 3 0) (judgeLines reference name above 1 (linesOf t)) .number ≡ 0 → Records 0 0 (linesOf (drop (recordsAt t) t))
+      go : (b : Bool) → pick b (fault 3 0) (judgeLines reference name above 1 (linesOf t)) .number ≡ 0 → Records 0 noPos (linesOf (drop (recordsAt t) t))
       go true e = absurd (omega arith)
       go false e = rw zero-add at (above-records t (length t) 0 1 (omega arith) e)
 
   pub accepted-records : (t : List ℕ) → judgeText reference name t .number ≡ 0 → RecordsFrom t (recordsAt t)
-  accepted-records t e = record { records = 0; last = 0; clear = accepted-clear t e }
+  accepted-records t e = record { records = 0; last = noPos; clear = accepted-clear t e }
 
-  records-few : (records last : ℕ) (ls : List (List ℕ)) → Records records last ls → records ≤ mostRecords → records + length ls ≤ mostRecords
+  records-few : (records : ℕ) (last : Pos) (ls : List (List ℕ)) → Records records last ls → records ≤ mostRecords → records + length ls ≤ mostRecords
   records-few records last [] r h = omega arith
   records-few records last (l ∷ ls) r h =
       let few = leb-false mostRecords records (r .0 .1 .1 .0) in
@@ -112,7 +114,7 @@ module _ (reference name : List ℕ) where
 
   -- There are at most 512 records, by their lines and by their entries.
   pub accepted-few-lines : (t : List ℕ) → judgeText reference name t .number ≡ 0 → length (linesOf (drop (recordsAt t) t)) ≤ mostRecords
-  accepted-few-lines t e = omega (arith, records-few 0 0 (linesOf (drop (recordsAt t) t)) (accepted-clear t e) (omega arith))
+  accepted-few-lines t e = omega (arith, records-few 0 noPos (linesOf (drop (recordsAt t) t)) (accepted-clear t e) (omega arith))
 
   pub accepted-few : (t : List ℕ) → judgeText reference name t .number ≡ 0 → length (entriesOf t) ≤ mostRecords
   accepted-few t e = omega (arith, entries-length (recordsAt t) (linesOf (drop (recordsAt t) t)), accepted-few-lines t e)
@@ -125,10 +127,10 @@ module _ (reference name : List ℕ) where
     records-next a r h =
         record { records = r .records + 1; last = posOn (lineAt t a); clear = (rw (lines-at t a h) at (r .clear)) .1 }
 
-    pub records-order : (a : ℕ) → RecordsFrom t a → a < length t → nextLine t a < length t → posOn (lineAt t a) ≤ posOn (lineAt t (nextLine t a))
+    pub records-order : (a : ℕ) → RecordsFrom t a → a < length t → nextLine t a < length t → posOn (lineAt t a) .0 ≤ posOn (lineAt t (nextLine t a)) .0
     records-order a r h k =
         let rows = (rw (lines-at t a h, lines-at t (nextLine t a) k) at (r .clear)) .1 .0 in
-        ltb-false (posOn (lineAt t (nextLine t a))) (posOn (lineAt t a)) (rows .1 .1 .1 .1 .1 .1 .1 .1 .1 .1 .1 .0)
+        ltb-false (posOn (lineAt t (nextLine t a)) .0) (posOn (lineAt t a) .0) (rows .1 .1 .1 .1 .1 .1 .1 .1 .1 .1 .1 .0)
 
     pub records-skip : (i a : ℕ) → RecordsFrom t a → RecordsFrom t (skipLines i t a)
     records-skip zero a r = rw (skip-lines-zero t a) r
@@ -139,7 +141,7 @@ module _ (reference name : List ℕ) where
         go (no k) f = rw (skip-lines-past t (suc i) a (omega arith)) r
 
   -- Rows 6 and 11 do not hold where no row does.
-  records-readable : (records last : ℕ) (ls : List (List ℕ)) → Records records last ls → T (allReadable? ls)
+  records-readable : (records : ℕ) (last : Pos) (ls : List (List ℕ)) → Records records last ls → T (allReadable? ls)
   unfolding allReadable?
   records-readable records last [] r = tt
   records-readable records last (l ∷ ls) r =
@@ -161,7 +163,7 @@ module _ (reference name : List ℕ) where
 
     -- POS is not below the POS of the record before.
     pub accepted-order : (i : ℕ) → recordAt t i < length t → recordAt t (suc i) < length t
-        → posOn (lineAt t (recordAt t i)) ≤ posOn (lineAt t (recordAt t (suc i)))
+        → posOn (lineAt t (recordAt t i)) .0 ≤ posOn (lineAt t (recordAt t (suc i))) .0
     accepted-order i h k =
         let e = skip-lines-next t i (recordsAt t) h in
         rw e (records-order t (recordAt t i) (accepted-from i) h (rw e at k))

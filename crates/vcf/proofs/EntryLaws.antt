@@ -22,6 +22,7 @@ use borrow.Author.Tests.{le-leb, lt-leb}
 use lib.Dec.{T}
 use lib.ListN.{length, getD, drop}
 use lib.Seq.{length-take-le}
+use Rattle.bases.specs.declared.place.Pos.{Pos}
 use Rattle.vcf.specs.declared.entry.Entry.{Entry}
 use Rattle.vcf.specs.declared.entry.Part.{Part}
 use Rattle.vcf.specs.Allele.{altCount}
@@ -141,11 +142,11 @@ module _ (t : List ℕ) where
       go h (yes k) = k
       go h (no k) = absurd (omega (arith, entry-none i (recordsAt t) (omega arith)))
 
-pub entry-is : (l : List ℕ) (a : ℕ) {p r k end n : ℕ} {bases alt g : List ℕ} {second : Part}
+pub entry-is : (l : List ℕ) (a : ℕ) {p : Pos} {r k end n : ℕ} {bases alt g : List ℕ} {second : Part}
     → p ≡ posOn l → r ≡ fieldAt 3 l → bases ≡ fieldFrom l r → k ≡ fieldAt 4 l → alt ≡ fieldFrom l k → end ≡ 0 + until COMMA alt
     → second ≡ part (a + k + end + 1) (length alt - (end + 1)) → n ≡ altCount alt → g ≡ genotypeOn l
     → _≡_ {A = Entry} record {
-      pos = record { 0 = p };
+      pos = p;
       reference = part (a + r) (length bases);
       first = part (a + k) end;
       second = second;

@@ -22,6 +22,7 @@ use Rattle.vcf.specs.declared.list.Stage.{Stage}
 use Rattle.vcf.specs.Bytes.{LF, until}
 use Rattle.vcf.specs.Header.{headerLine?, headerWrong?}
 use Rattle.vcf.specs.List.{onto, linesOf, textWrong?, above, belowAt, nextStage, lineRows, fault, judgeLines, judgeText}
+use Rattle.vcf.specs.Pos.{noPos}
 use Rattle.vcf.specs.Record.{tooLong?, posOn, recordRows}
 use Rattle.vcf.specs.Row.{row, firstRow}
 
@@ -55,13 +56,13 @@ next-record s l e = rw e
 pub next-header : (s : Stage) (l : List ℕ) → s .below ≡ false → headerLine? l ≡ true → nextStage s l ≡ above
 next-header s l e h = rw (e, h)
 
-pub next-column : (s : Stage) (l : List ℕ) → s .below ≡ false → headerLine? l ≡ false → nextStage s l ≡ belowAt 0 0
+pub next-column : (s : Stage) (l : List ℕ) → s .below ≡ false → headerLine? l ≡ false → nextStage s l ≡ belowAt 0 noPos
 next-column s l e h = rw (e, h)
 
 pub next-records : (s : Stage) (l : List ℕ) → nextStage s l .records ≤ s .records + 1
 next-records s l = go (s .below) (headerLine? l)
   where
-    go : (b h : Bool) → pick b (belowAt (s .records + 1) (posOn l)) (pick h above (belowAt 0 0)) .records ≤ s .records + 1
+    go : (b h : Bool) → pick b (belowAt (s .records + 1) (posOn l)) (pick h above (belowAt 0 noPos)) .records ≤ s .records + 1
     go true h = omega arith
     go false true = omega arith
     go false false = omega arith

@@ -16,7 +16,7 @@ use lib.Dec.{leb}
 use lib.ListN.{length, getD, drop, drop-of-length-le}
 use lib.Seq.{drop-cons}
 use borrow.Author.Tests.{leb-true, le-leb, lt-leb, ne-eqb}
-use Rattle.vcf.specs.Pos.{digit?, allDigits?, valueFrom, largestPos, isPos?, readPos}
+use Rattle.vcf.specs.Pos.{digit?, allDigits?, valueFrom, largestPos, isPos?, noPos, readPos}
 
 pub digit-low : (b : ℕ) → digit? b ≡ true → 48 ≤ b
 digit-low b e = leb-true 48 b (and-eq-true-iff (leb 48 b) (leb b 57) .0 e .0)
@@ -55,18 +55,18 @@ pub first-byte : (f : List ℕ) → 0 < length f → getD f 0 48 ≡ getD f 0 0
 first-byte [] h = omega arith
 first-byte (b ∷ bs) h = refl
 
-pub pos-other : (f : List ℕ) → allDigits? f ≡ false → readPos f ≡ 0
+pub pos-other : (f : List ℕ) → allDigits? f ≡ false → readPos f ≡ noPos
 unfolding isPos?
 pos-other f e = rw e
 
-pub pos-zero : (f : List ℕ) → getD f 0 48 ≡ 48 → readPos f ≡ 0
+pub pos-zero : (f : List ℕ) → getD f 0 48 ≡ 48 → readPos f ≡ noPos
 unfolding isPos?
 pos-zero f e = rw (e, and-false)
 
-pub pos-large : (f : List ℕ) → largestPos < valueFrom 0 f → readPos f ≡ 0
+pub pos-large : (f : List ℕ) → largestPos < valueFrom 0 f → readPos f ≡ noPos
 unfolding isPos?
 pos-large f h = rw (lt-leb (valueFrom 0 f) largestPos h, and-false, and-false)
 
-pub pos-is : (f : List ℕ) → allDigits? f ≡ true → 0 < length f → (getD f 0 0 ≡ 48 → ⊥) → valueFrom 0 f ≤ largestPos → readPos f ≡ valueFrom 0 f
+pub pos-is : (f : List ℕ) → allDigits? f ≡ true → 0 < length f → (getD f 0 0 ≡ 48 → ⊥) → valueFrom 0 f ≤ largestPos → readPos f ≡ record { 0 = valueFrom 0 f }
 unfolding isPos?
 pos-is f e l n h = rw (e, first-byte f l, ne-eqb (getD f 0 0) 48 n, le-leb (valueFrom 0 f) largestPos h)

@@ -18,6 +18,8 @@ use native.Mathlib.Omega.{arith}
 use borrow.Author.Tests.{lt-leb, le-leb, eq-eqb, ne-eqb, not-false}
 use lib.Dec.{T, eqb, leb, eqb→eq, leb→le, T-not}
 use lib.ListN.{length, getD, take, drop}
+use Rattle.bases.specs.declared.place.Pos.{Pos}
+use Rattle.bases.specs.Place.{placeOf}
 use Rattle.bases.specs.Same.{sameBases?}
 use Rattle.bases.proofs.TestLaws.{both, of-true, is-false}
 use Rattle.vcf.specs.Allele.{altCount, altsWrong?}
@@ -77,14 +79,14 @@ zero-digit b h = go (ℕ-discrete b 48)
 pub no-alt : (g : List ℕ) → Copies g → eqb (getD g 0 0) 48 && eqb (getD g 2 0) 48 ≡ eqb (copy0 g) 0 && eqb (copy1 g) 0
 no-alt g w = rw (zero-digit (getD g 0 0) (w .first), zero-digit (getD g 2 0) (w .last))
 
-pub off-past : (r : List ℕ) (pos : ℕ) (a : List ℕ) → length r < pos - 1 + length a → offReference? r pos a ≡ true
+pub off-past : (r : List ℕ) (pos : Pos) (a : List ℕ) → length r < placeOf pos .0 + length a → offReference? r pos a ≡ true
 off-past r pos a h = rw (lt-leb _ _ h)
 
-pub off-within : (r : List ℕ) (pos : ℕ) (a : List ℕ) → pos - 1 + length a ≤ length r → offReference? r pos a ≡ not (sameBases? a (take (length a) (drop (pos - 1) r)))
+pub off-within : (r : List ℕ) (pos : Pos) (a : List ℕ) → placeOf pos .0 + length a ≤ length r → offReference? r pos a ≡ not (sameBases? a (take (length a) (drop (placeOf pos .0) r)))
 off-within r pos a h = rw (le-leb _ _ h)
 
 -- where no row of a record's line holds, the line has its ten fields
-pub record-ten : (r name : List ℕ) (records last : ℕ) (l : List ℕ) → firstRow (recordRows r name records last l) ≡ 0 → T (tenFields? l)
+pub record-ten : (r name : List ℕ) (records : ℕ) (last : Pos) (l : List ℕ) → firstRow (recordRows r name records last l) ≡ 0 → T (tenFields? l)
 record-ten r name records last l e =
     let none = none-holds (recordRows r name records last l) (record-rows-numbered r name records last l) e in
     of-true {t = tenFields? l} (not-false (tenFields? l) (none .1 .1 .1 .0))

@@ -5,11 +5,13 @@
 use mathlib.Core.Bool.{false, not, _&&_, _||_}
 use mathlib.Core.List.{List}
 use mathlib.Core.Path.{_≡_}
-use Prim.Native.Nat.{ℕ, _+_, _-_, _≤_}
+use Prim.Native.Nat.{ℕ, _+_, _≤_}
 use native.Mathlib.Omega.{arith}
 use borrow.Author.Tests.{eqb-false, not-false}
 use lib.Dec.{T, leb, leb→le}
 use lib.ListN.{length, take, drop}
+use Rattle.bases.specs.declared.place.Pos.{Pos}
+use Rattle.bases.specs.Place.{placeOf}
 use Rattle.bases.specs.Letter.{basesOf}
 use Rattle.bases.specs.Same.{sameBases?}
 use Rattle.bases.proofs.SameLaws.{same-iff}
@@ -22,23 +24,23 @@ use Rattle.vcf.proofs.RowLaws.{NoneHolds}
 -- A record of a list on this reference.
 pub record RecordLine (reference l : List ℕ) : Type 0 where
   pub ten : T (tenFields? l)
-  pub pos : 1 ≤ posOn l
+  pub pos : 1 ≤ posOn l .0
   pub ref : T (isAllele? (field 3 l))
   pub alts : altsWrong? (field 3 l) (field 4 l) ≡ false
   pub genotype : genotypeWrong? l ≡ false
   pub copied : noAlt? l ≡ false
   -- REF equals the reference at POS
-  pub within : posOn l - 1 + length (field 3 l) ≤ length reference
-  pub same : basesOf (field 3 l) ≡ basesOf (take (length (field 3 l)) (drop (posOn l - 1) reference))
+  pub within : placeOf (posOn l) .0 + length (field 3 l) ≤ length reference
+  pub same : basesOf (field 3 l) ≡ basesOf (take (length (field 3 l)) (drop (placeOf (posOn l) .0) reference))
 
-pub record-line : (reference name : List ℕ) (records last : ℕ) (l : List ℕ) → NoneHolds (recordRows reference name records last l) → RecordLine reference l
+pub record-line : (reference name : List ℕ) (records : ℕ) (last : Pos) (l : List ℕ) → NoneHolds (recordRows reference name records last l) → RecordLine reference l
 record-line reference name records last l z =
     let ref = field 3 l in
-    let at = take (length ref) (drop (posOn l - 1) reference) in
+    let at = take (length ref) (drop (placeOf (posOn l) .0) reference) in
     let rows = z .1 .1 .1 in
-    let on = both (leb (posOn l - 1 + length ref) (length reference)) (sameBases? ref at) .0
-    (of-true (not-false (leb (posOn l - 1 + length ref) (length reference) && sameBases? ref at) (rows .1 .1 .1 .1 .1 .1 .1 .0))) in
-    let some = eqb-false (posOn l) 0 (rows .1 .1 .0) in
+    let on = both (leb (placeOf (posOn l) .0 + length ref) (length reference)) (sameBases? ref at) .0
+    (of-true (not-false (leb (placeOf (posOn l) .0 + length ref) (length reference) && sameBases? ref at) (rows .1 .1 .1 .1 .1 .1 .1 .0))) in
+    let some = eqb-false (posOn l .0) 0 (rows .1 .1 .0) in
     record {
       ten = of-true (not-false (tenFields? l) (rows .0));
       pos = omega arith;

@@ -14,6 +14,7 @@ use mathlib.Core.Path.{_≡_, refl, sym, ap, _∙_}
 use Prim.Native.Nat.{ℕ}
 use native.Mathlib.Nat.{suc-ne-zero}
 use lib.Dec.{T}
+use Rattle.bases.specs.declared.place.Pos.{Pos}
 use Rattle.bases.proofs.TestLaws.{of-true, is-true}
 use Rattle.bases.specs.Pick.{pick}
 use Rattle.vcf.specs.declared.list.Stage.{Stage}
@@ -102,7 +103,7 @@ numbered-at (b ∷ before) r after n = numbered-at before r after (n .1)
 pub first-not-zero : (rs : List Row) (k : ℕ) → Numbered rs → First k rs → k ≢ 0
 first-not-zero rs k n s e = numbered-at (s .before) (s .found) (s .after) (rw (s .split) at n) (s .number ∙ e)
 
-pub record-rows-numbered : (reference name : List ℕ) (records last : ℕ) (l : List ℕ) → Numbered (recordRows reference name records last l)
+pub record-rows-numbered : (reference name : List ℕ) (records : ℕ) (last : Pos) (l : List ℕ) → Numbered (recordRows reference name records last l)
 record-rows-numbered reference name records last l = (
   suc-ne-zero 3,
   (

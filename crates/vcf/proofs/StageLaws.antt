@@ -22,6 +22,7 @@ use Rattle.vcf.specs.declared.list.Stage.{Stage}
 use Rattle.vcf.specs.Bytes.{columnNames, hashes, begins?}
 use Rattle.vcf.specs.Header.{headerLine?, tenthEnd, columnLine?}
 use Rattle.vcf.specs.List.{above, belowAt, nextStage}
+use Rattle.vcf.specs.Pos.{noPos}
 
 -- The stage behind the first i of some lines that are met at stage s.
 abbrev pub stageAt : Stage → List (List ℕ) → ℕ → Stage
@@ -44,14 +45,14 @@ stage-above-iff (l ∷ ls) (suc i) h = go (headerLine? l) refl (stage-above-iff 
     All ls i = (j : ℕ) → j < i → headerLine? (getD ls j []) ≡ true
 
     go : (t : Bool) → headerLine? l ≡ t → (stageAt above ls i .below ≡ false) ↔ All ls i
-        → (stageAt (pick t above (belowAt 0 0)) ls i .below ≡ false) ↔ All (l ∷ ls) (suc i)
+        → (stageAt (pick t above (belowAt 0 noPos)) ls i .below ≡ false) ↔ All (l ∷ ls) (suc i)
     go true e r = (to, λ f. r .1 (λ j k. f (suc j) (omega arith)))
       where
         to : stageAt above ls i .below ≡ false → All (l ∷ ls) (suc i)
         to b zero k = e
         to b (suc j) k = r .0 b j (le-of-suc-le-suc k)
     go false e r = (
-      λ b. absurd (of-false b (of-true (stage-below (belowAt 0 0) ls i refl))),
+      λ b. absurd (of-false b (of-true (stage-below (belowAt 0 noPos) ls i refl))),
       λ f. absurd (of-false e (of-true (f 0 (omega arith)))),
     )
 

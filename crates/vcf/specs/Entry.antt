@@ -36,7 +36,7 @@ bytesOf t p = take (p .len) (drop (p .at) t)
 abbrev pub entryOf : List ℕ → ℕ → Entry
 entryOf l a =
     record {
-      pos = record { 0 = posOn l };
+      pos = posOn l;
       reference = part (a + fieldAt 3 l) (length (field 3 l));
       first = part (a + fieldAt 4 l) (until COMMA (field 4 l));
       second = part (a + fieldAt 4 l + until COMMA (field 4 l) + 1) (length (field 4 l) - (until COMMA (field 4 l) + 1));

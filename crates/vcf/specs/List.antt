@@ -5,11 +5,13 @@ use mathlib.Core.List.{List, [], _∷_}
 use Prim.Native.Nat.{ℕ, _+_, _-_}
 use lib.Dec.{eqb, ltb}
 use lib.ListN.{length, getD}
+use Rattle.bases.specs.declared.place.Pos.{Pos}
 use Rattle.bases.specs.Pick.{pick}
 use Rattle.vcf.specs.declared.list.Stage.{Stage}
 use Rattle.vcf.specs.declared.list.Fault.{Fault}
 use Rattle.vcf.specs.Bytes.{LF}
 use Rattle.vcf.specs.Header.{headerLine?, headerWrong?}
+use Rattle.vcf.specs.Pos.{noPos}
 use Rattle.vcf.specs.Record.{tooLong?, posOn, recordRows}
 use Rattle.vcf.specs.Row.{Row, row, firstRow}
 
@@ -32,15 +34,15 @@ textWrong? t = ltb longestText (length t) || not (eqb (getD t (length t - 1) 0) 
 
 -- Above the records.
 abbrev pub above : Stage
-above = record { below = false; records = 0; last = 0 }
+above = record { below = false; records = 0; last = noPos }
 
 -- Below the column line, behind so many records, the last at this POS.
-abbrev pub belowAt : ℕ → ℕ → Stage
+abbrev pub belowAt : ℕ → Pos → Stage
 belowAt records last = record { below = true; records = records; last = last }
 
 -- Where a line leads: lines that begin with ## stay above the records, the next is the column line, and each line below it is a record.
 abbrev pub nextStage : Stage → List ℕ → Stage
-nextStage s l = pick (s .below) (belowAt (s .records + 1) (posOn l)) (pick (headerLine? l) above (belowAt 0 0))
+nextStage s l = pick (s .below) (belowAt (s .records + 1) (posOn l)) (pick (headerLine? l) above (belowAt 0 noPos))
 
 -- The rows that are tried on the n-th line of the text (from 1).
 abbrev pub lineRows : List ℕ → List ℕ → Stage → ℕ → List ℕ → List Row

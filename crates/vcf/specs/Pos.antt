@@ -6,6 +6,7 @@ use Prim.Native.Nat.{ℕ, _+_, _-_, _*_}
 use lib.Dec.{eqb, leb}
 use lib.ListN.{getD}
 use Rattle.bases.specs.Pick.{pick}
+use Rattle.bases.specs.declared.place.Pos.{Pos}
 
 -- 0 to 9, as a byte.
 abbrev pub digit? : ℕ → Bool
@@ -27,6 +28,10 @@ largestPos = 65535
 unfoldable pub isPos? : List ℕ → Bool
 isPos? f = allDigits? f && (not (eqb (getD f 0 48) 48) && leb (valueFrom 0 f) largestPos)
 
--- The POS that the field writes; 0 where it is none, and then row 8 holds.
-abbrev pub readPos : List ℕ → ℕ
-readPos f = pick (isPos? f) (valueFrom 0 f) 0
+-- No POS: 0, which is none since POS counts from 1.
+abbrev pub noPos : Pos
+noPos = record { 0 = 0 }
+
+-- The POS that the field writes; `noPos` where it writes none, and then row 8 holds.
+abbrev pub readPos : List ℕ → Pos
+readPos f = record { 0 = pick (isPos? f) (valueFrom 0 f) (noPos .0) }

@@ -2,15 +2,17 @@
 -- Assumes nothing: these are definitions.
 use mathlib.Core.Bool.{Bool, not, _&&_, _||_}
 use mathlib.Core.List.{List, [], _∷_}
-use Prim.Native.Nat.{ℕ, _+_, _-_}
+use Prim.Native.Nat.{ℕ, _+_}
 use lib.Dec.{eqb, leb, ltb}
 use lib.ListN.{length, take, drop}
+use Rattle.bases.specs.declared.place.Pos.{Pos}
+use Rattle.bases.specs.Place.{placeOf}
 use Rattle.bases.specs.Same.{same?, sameBases?}
 use Rattle.vcf.specs.Allele.{isAllele?, altCount, altsWrong?}
 use Rattle.vcf.specs.Bytes.{hash, begins?}
 use Rattle.vcf.specs.Field.{field, tenFields?}
 use Rattle.vcf.specs.Genotype.{formatWrong?, genotype, copiesWrong?, copy0, copy1}
-use Rattle.vcf.specs.Pos.{readPos}
+use Rattle.vcf.specs.Pos.{noPos, readPos}
 use Rattle.vcf.specs.Row.{Row, row}
 
 abbrev pub longestLine : ℕ
@@ -27,8 +29,8 @@ mostRecords = 512
 abbrev pub chromWrong? : List ℕ → List ℕ → Bool
 chromWrong? name l = not (same? name (field 0 l))
 
--- POS of a line; 0 where row 8 holds.
-abbrev pub posOn : List ℕ → ℕ
+-- POS of a line; `noPos` where row 8 holds.
+abbrev pub posOn : List ℕ → Pos
 posOn l = readPos (field 1 l)
 
 -- Row 9: REF is no allele.
@@ -52,25 +54,25 @@ abbrev pub noAlt? : List ℕ → Bool
 noAlt? l = eqb (copy0 (genotypeOn l)) 0 && eqb (copy1 (genotypeOn l)) 0
 
 -- Row 13: REF at this POS runs past the reference or differs from it.
-abbrev pub offReference? : List ℕ → ℕ → List ℕ → Bool
+abbrev pub offReference? : List ℕ → Pos → List ℕ → Bool
 offReference? reference pos ref =
-    not (leb (pos - 1 + length ref) (length reference) && sameBases? ref (take (length ref) (drop (pos - 1) reference)))
+    not (leb (placeOf pos .0 + length ref) (length reference) && sameBases? ref (take (length ref) (drop (placeOf pos .0) reference)))
 
--- The rows on the fields of a line, behind a record at POS `last` (0 where there is none).
-abbrev pub fieldRows : List ℕ → List ℕ → ℕ → List ℕ → List Row
+-- The rows on the fields of a line, behind a record at POS `last` (`noPos` where there is none).
+abbrev pub fieldRows : List ℕ → List ℕ → Pos → List ℕ → List Row
 fieldRows reference name last l =
     row 7 (chromWrong? name l)
-    ∷ row 8 (eqb (posOn l) 0)
+    ∷ row 8 (eqb (posOn l .0) (noPos .0))
     ∷ row 9 (refWrong? l)
     ∷ row 10 (altWrong? l)
     ∷ row 11 (genotypeWrong? l)
     ∷ row 12 (noAlt? l)
     ∷ row 13 (offReference? reference (posOn l) (field 3 l))
-    ∷ row 14 (ltb (posOn l) last)
+    ∷ row 14 (ltb (posOn l .0) (last .0))
     ∷ []
 
 -- The rows on a line below the column line, behind so many records, the last at POS `last`.
-abbrev pub recordRows : List ℕ → List ℕ → ℕ → ℕ → List ℕ → List Row
+abbrev pub recordRows : List ℕ → List ℕ → ℕ → Pos → List ℕ → List Row
 recordRows reference name records last l =
     row 4 (tooLong? l)
     ∷ row 5 (begins? hash l)

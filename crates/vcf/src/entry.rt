@@ -110,7 +110,7 @@ fn entry_on(line: &[u8], at: usize) -> Entry
     let genotype = genotype_of(field_from(line, sample_at));
     let second = second_part(at + alt_at, end, alt.len());
     Entry {
-        pos: Pos(pos),
+        pos,
         reference: Part {
             at: at + ref_at,
             len: bases.len(),
@@ -136,7 +136,7 @@ pub fn entry_at(text: &[u8], at: usize) -> Entry
 }
 
 // POS of the record whose line begins at `at`. No more of the line is looked at.
-pub fn pos_at(text: &[u8], at: usize) -> usize
+pub fn pos_at(text: &[u8], at: usize) -> Pos
     requires { ⌜ (at < length (now text)) × T (readableFrom? (now text) at) ⌝ }
     ensures { λ r. ⌜ r ≡ posOn (lineAt (now (text .entry)) at) ⌝ }
 {

@@ -14,6 +14,7 @@ use crate::header::is_header_line;
 use crate::record::is_too_long;
 use crate::record::pos_on;
 use crate::record::record_fault;
+use bases::place::Pos;
 
 // The most bytes that a list's text has.
 pub const LONGEST_TEXT: usize = 65_536;
@@ -22,7 +23,7 @@ pub const LONGEST_TEXT: usize = 65_536;
 pub struct Stage {
     pub below: bool,
     pub records: usize,
-    pub last: usize,
+    pub last: Pos,
 }
 
 // A row that holds, and the line where it does (from 1; 0 for row 3). No fault is 0 at line 0.
@@ -78,13 +79,13 @@ fn next_stage(stage: Stage, line: &[u8]) -> Stage
         return Stage {
             below: false,
             records: 0,
-            last: 0,
+            last: Pos(0),
         };
     }
     Stage {
         below: true,
         records: 0,
-        last: 0,
+        last: Pos(0),
     }
 }
 
@@ -98,7 +99,7 @@ pub fn judge(reference: &[u8], name: &[u8], text: &[u8]) -> Fault
     let mut stage = Stage {
         below: false,
         records: 0,
-        last: 0,
+        last: Pos(0),
     };
     let mut n: usize = 1;
     let mut at: usize = 0;

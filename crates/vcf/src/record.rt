@@ -19,6 +19,8 @@ use crate::genotype::format_wrong;
 use crate::genotype::genotype_of;
 use crate::pos::read_pos;
 use bases::bytes::same_bytes;
+use bases::place::Pos;
+use bases::place::place_of;
 use bases::same::same_bases;
 
 // The most bytes of a line, without its LF.
@@ -41,8 +43,8 @@ fn chrom_wrong(name: &[u8], line: &[u8]) -> bool
     !same_bytes(name, field_from(line, 0))
 }
 
-// POS, or 0 where row 8 holds.
-pub fn pos_on(line: &[u8], fields: Fields) -> usize
+// POS; none where row 8 holds.
+pub fn pos_on(line: &[u8], fields: Fields) -> Pos
     requires { ⌜ T (tenFields? (now line)) × (fields ≡ fieldsOf (now line)) ⌝ }
     ensures { λ r. ⌜ r ≡ posOn (now (line .entry)) ⌝ }
 {
@@ -95,13 +97,14 @@ fn has_no_alt(line: &[u8], fields: Fields) -> bool
 }
 
 // Row 13: does REF at this POS run past the reference or differ from it?
-fn is_off_reference(reference: &[u8], pos: usize, line: &[u8], fields: Fields) -> bool
-    requires { ⌜ T (tenFields? (now line)) × (fields ≡ fieldsOf (now line)) × (1 ≤ pos) ⌝ }
+fn is_off_reference(reference: &[u8], pos: Pos, line: &[u8], fields: Fields) -> bool
+    requires { ⌜ T (tenFields? (now line)) × (fields ≡ fieldsOf (now line)) × (1 ≤ pos .0) ⌝ }
     ensures { λ r. ⌜ r ≡ offReference? (now (reference .entry)) pos (field 3 (now (line .entry))) ⌝ }
 {
     let at = fields.reference;
     let bases = field_from(line, at);
-    let from = pos - 1;
+    let place = place_of(pos);
+    let from = place.0;
     if reference.len() < from {
         return true;
     }
@@ -113,7 +116,7 @@ fn is_off_reference(reference: &[u8], pos: usize, line: &[u8], fields: Fields) -
 }
 
 // The first row from 7 to 14 that holds on a line of ten fields, behind a record at POS `last`; or 0.
-fn field_fault(reference: &[u8], name: &[u8], last: usize, line: &[u8]) -> u32
+fn field_fault(reference: &[u8], name: &[u8], last: Pos, line: &[u8]) -> u32
     requires { ⌜ T (tenFields? (now line)) ⌝ }
     ensures { λ r. ⌜ r ≡ firstRow (fieldRows (now (reference .entry)) (now (name .entry)) last (now (line .entry))) ⌝ }
 {
@@ -122,7 +125,7 @@ fn field_fault(reference: &[u8], name: &[u8], last: usize, line: &[u8]) -> u32
     }
     let fields = fields_of(line);
     let pos = pos_on(line, fields);
-    if pos == 0 {
+    if pos.0 == 0 {
         return 8;
     }
     if ref_wrong(line, fields) {
@@ -140,14 +143,14 @@ fn field_fault(reference: &[u8], name: &[u8], last: usize, line: &[u8]) -> u32
     if is_off_reference(reference, pos, line, fields) {
         return 13;
     }
-    if pos < last {
+    if pos.0 < last.0 {
         return 14;
     }
     0
 }
 
 // The first row that holds on a line below the column line, behind so many records, the last at POS `last`; or 0.
-pub fn record_fault(reference: &[u8], name: &[u8], records: usize, last: usize, line: &[u8]) -> u32
+pub fn record_fault(reference: &[u8], name: &[u8], records: usize, last: Pos, line: &[u8]) -> u32
     ensures { λ r. ⌜ r ≡ firstRow (recordRows (now (reference .entry)) (now (name .entry)) records last (now (line .entry))) ⌝ }
 {
     if is_too_long(line) {

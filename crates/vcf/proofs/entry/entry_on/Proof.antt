@@ -69,8 +69,8 @@ add-t14 c =
     let ten = readable-ten l (c .before .before .before .before .before .before .before .before .before .pre .0) in
     omega (arith, field-within l 3 ten (lit< tt))
 
-add-t18 : tie.Need-add-t18
-add-t18 c =
+add-t17 : tie.Need-add-t17
+add-t17 c =
     let l = c .before .before .before .before .before .before .before .before .before .args .line .now in
     let f = read l (c .before .before .before .before .before .before .before .fields-of .result) (c .before .before .before .before .before .before .before .fields-of .ensures) in
     let ten = readable-ten l (c .before .before .before .before .before .before .before .before .before .pre .0) in
@@ -79,23 +79,23 @@ add-t18 c =
 alt-count-requires : tie.Need-alt-count-requires
 alt-count-requires c κs = search needs
 
-shared-slice-read-t22 : tie.Need-shared-slice-read-t22
-shared-slice-read-t22 c = let w = copies-read (c .before .before .before .before .before .before .before .before .before .before .before .args .line .now) (readable-right (c .before .before .before .before .before .before .before .before .before .before .before .args .line .now) (c .before .before .before .before .before .before .before .before .before .before .before .pre .0)) (sample-read (c .before .before .before .before .before .before .before .before .before .before .before .args .line .now) (c .before .before .before .before .before .before .before .before .before .fields-of .ensures) (c .before .before .before .before .field-from3 .ensures) (c .before .before .before .genotype-of .ensures)) in rw (w .long) (lit< tt)
+shared-slice-read-t21 : tie.Need-shared-slice-read-t21
+shared-slice-read-t21 c = let w = copies-read (c .before .before .before .before .before .before .before .before .before .before .before .args .line .now) (readable-right (c .before .before .before .before .before .before .before .before .before .before .before .args .line .now) (c .before .before .before .before .before .before .before .before .before .before .before .pre .0)) (sample-read (c .before .before .before .before .before .before .before .before .before .before .before .args .line .now) (c .before .before .before .before .before .before .before .before .before .fields-of .ensures) (c .before .before .before .before .field-from3 .ensures) (c .before .before .before .genotype-of .ensures)) in rw (w .long) (lit< tt)
 
-sub-t23 : tie.Need-sub-t23
-sub-t23 c = copies-read (c .before .before .before .before .before .before .before .before .before .before .before .args .line .now) (readable-right (c .before .before .before .before .before .before .before .before .before .before .before .args .line .now) (c .before .before .before .before .before .before .before .before .before .before .before .pre .0)) (sample-read (c .before .before .before .before .before .before .before .before .before .before .before .args .line .now) (c .before .before .before .before .before .before .before .before .before .fields-of .ensures) (c .before .before .before .before .field-from3 .ensures) (c .before .before .before .genotype-of .ensures)) .first
+sub-t22 : tie.Need-sub-t22
+sub-t22 c = copies-read (c .before .before .before .before .before .before .before .before .before .before .before .args .line .now) (readable-right (c .before .before .before .before .before .before .before .before .before .before .before .args .line .now) (c .before .before .before .before .before .before .before .before .before .before .before .pre .0)) (sample-read (c .before .before .before .before .before .before .before .before .before .before .before .args .line .now) (c .before .before .before .before .before .before .before .before .before .fields-of .ensures) (c .before .before .before .before .field-from3 .ensures) (c .before .before .before .genotype-of .ensures)) .first
 
-cast-t24 : tie.Need-cast-t24
-cast-t24 c = omega (arith, c .shared-slice-known2 .given 0)
+cast-t23 : tie.Need-cast-t23
+cast-t23 c = omega (arith, c .shared-slice-known2 .given 0)
 
-shared-slice-read-t26 : tie.Need-shared-slice-read-t26
-shared-slice-read-t26 c = let w = copies-read (c .before .before .before .before .before .before .before .before .before .before .before .before .args .line .now) (readable-right (c .before .before .before .before .before .before .before .before .before .before .before .before .args .line .now) (c .before .before .before .before .before .before .before .before .before .before .before .before .pre .0)) (sample-read (c .before .before .before .before .before .before .before .before .before .before .before .before .args .line .now) (c .before .before .before .before .before .before .before .before .before .before .fields-of .ensures) (c .before .before .before .before .before .field-from3 .ensures) (c .before .before .before .before .genotype-of .ensures)) in rw (w .long) (lit< tt)
+shared-slice-read-t25 : tie.Need-shared-slice-read-t25
+shared-slice-read-t25 c = let w = copies-read (c .before .before .before .before .before .before .before .before .before .before .before .before .args .line .now) (readable-right (c .before .before .before .before .before .before .before .before .before .before .before .before .args .line .now) (c .before .before .before .before .before .before .before .before .before .before .before .before .pre .0)) (sample-read (c .before .before .before .before .before .before .before .before .before .before .before .before .args .line .now) (c .before .before .before .before .before .before .before .before .before .before .fields-of .ensures) (c .before .before .before .before .before .field-from3 .ensures) (c .before .before .before .before .genotype-of .ensures)) in rw (w .long) (lit< tt)
 
-sub-t27 : tie.Need-sub-t27
-sub-t27 c = copies-read (c .before .before .before .before .before .before .before .before .before .before .before .before .args .line .now) (readable-right (c .before .before .before .before .before .before .before .before .before .before .before .before .args .line .now) (c .before .before .before .before .before .before .before .before .before .before .before .before .pre .0)) (sample-read (c .before .before .before .before .before .before .before .before .before .before .before .before .args .line .now) (c .before .before .before .before .before .before .before .before .before .before .fields-of .ensures) (c .before .before .before .before .before .field-from3 .ensures) (c .before .before .before .before .genotype-of .ensures)) .last
+sub-t26 : tie.Need-sub-t26
+sub-t26 c = copies-read (c .before .before .before .before .before .before .before .before .before .before .before .before .args .line .now) (readable-right (c .before .before .before .before .before .before .before .before .before .before .before .before .args .line .now) (c .before .before .before .before .before .before .before .before .before .before .before .before .pre .0)) (sample-read (c .before .before .before .before .before .before .before .before .before .before .before .before .args .line .now) (c .before .before .before .before .before .before .before .before .before .before .fields-of .ensures) (c .before .before .before .before .before .field-from3 .ensures) (c .before .before .before .before .genotype-of .ensures)) .last
 
-cast-t28 : tie.Need-cast-t28
-cast-t28 c = omega (arith, c .shared-slice-known3 .given 2)
+cast-t27 : tie.Need-cast-t27
+cast-t27 c = omega (arith, c .shared-slice-known3 .given 2)
 
 returns : tie.Need-returns
 returns c =
@@ -126,12 +126,12 @@ entry-on-spec =
     add-second-part
     second-part-requires
     add-t14
-    add-t18
+    add-t17
     alt-count-requires
-    shared-slice-read-t22
-    sub-t23
-    cast-t24
-    shared-slice-read-t26
-    sub-t27
-    cast-t28
+    shared-slice-read-t21
+    sub-t22
+    cast-t23
+    shared-slice-read-t25
+    sub-t26
+    cast-t27
     returns)

@@ -1,10 +1,10 @@
 -- `vcf::record::field_fault` meets its contract: its tests are the rows' tests, in their order. Assumes nothing.
 use mathlib.Core.List.{[]}
 use mathlib.Core.Path.{sym, ap, _∙_}
-use Prim.Native.Nat.{ℕ}
 use borrow.Author.Needs.{needs}
 use borrow.Author.Tests.{lt-ltb, le-ltb, eq-eqb, ne-eqb}
 use lib.Dec.{ltb}
+use Rattle.bases.specs.declared.place.Pos.{Pos}
 use Rattle.vcf.specs.Field.{field}
 use Rattle.vcf.specs.Record.{offReference?}
 use Rattle.vcf.proofs.RowLaws.{first-row-holds, first-row-not, first-row-none}
@@ -28,20 +28,20 @@ pos-on-requires c κs = search needs
 
 returns-2 : tie.Need-returns-2
 returns-2 c =
-    let l = c .before .before .before .before .before .before .before .before .args .line .now in
+    let l = c .before .before .before .before .before .before .before .before .before .args .line .now in
     sym
-    (first-row-not _ _ (sym (c .before .before .before .before .chrom-wrong .ensures) ∙ c .before .before .before .if1 .left)
-    ∙ first-row-holds _ _ (eq-eqb _ _ (sym (c .before .pos-on .ensures) ∙ c .if2 .taken)))
+    (first-row-not _ _ (sym (c .before .before .before .before .before .chrom-wrong .ensures) ∙ c .before .before .before .before .if1 .left)
+    ∙ first-row-holds _ _ (eq-eqb _ _ (ap (λ (p : Pos). p .0) (sym (c .before .before .pos-on .ensures)) ∙ c .if2 .taken)))
 
 ref-wrong-requires : tie.Need-ref-wrong-requires
 ref-wrong-requires c κs = search needs
 
 returns-3 : tie.Need-returns-3
 returns-3 c =
-    let l = c .before .before .before .before .before .before .before .before .before .before .args .line .now in
+    let l = c .before .before .before .before .before .before .before .before .before .before .before .args .line .now in
     sym
-    (first-row-not _ _ (sym (c .before .before .before .before .before .before .chrom-wrong .ensures) ∙ c .before .before .before .before .before .if1 .left)
-    ∙ first-row-not _ _ (ne-eqb _ _ (λ e. c .before .before .if2 .left (c .before .before .before .pos-on .ensures ∙ e)))
+    (first-row-not _ _ (sym (c .before .before .before .before .before .before .before .chrom-wrong .ensures) ∙ c .before .before .before .before .before .before .if1 .left)
+    ∙ first-row-not _ _ (ne-eqb _ _ (λ e. c .before .before .if2 .left (ap (λ (p : Pos). p .0) (c .before .before .before .before .pos-on .ensures) ∙ e)))
     ∙ first-row-holds _ _ (sym (c .before .ref-wrong .ensures) ∙ c .if3 .taken))
 
 alt-wrong-requires : tie.Need-alt-wrong-requires
@@ -49,10 +49,10 @@ alt-wrong-requires c κs = search needs
 
 returns-4 : tie.Need-returns-4
 returns-4 c =
-    let l = c .before .before .before .before .before .before .before .before .before .before .before .before .args .line .now in
+    let l = c .before .before .before .before .before .before .before .before .before .before .before .before .before .args .line .now in
     sym
-    (first-row-not _ _ (sym (c .before .before .before .before .before .before .before .before .chrom-wrong .ensures) ∙ c .before .before .before .before .before .before .before .if1 .left)
-    ∙ first-row-not _ _ (ne-eqb _ _ (λ e. c .before .before .before .before .if2 .left (c .before .before .before .before .before .pos-on .ensures ∙ e)))
+    (first-row-not _ _ (sym (c .before .before .before .before .before .before .before .before .before .chrom-wrong .ensures) ∙ c .before .before .before .before .before .before .before .before .if1 .left)
+    ∙ first-row-not _ _ (ne-eqb _ _ (λ e. c .before .before .before .before .if2 .left (ap (λ (p : Pos). p .0) (c .before .before .before .before .before .before .pos-on .ensures) ∙ e)))
     ∙ first-row-not _ _ (sym (c .before .before .before .ref-wrong .ensures) ∙ c .before .before .if3 .left)
     ∙ first-row-holds _ _ (sym (c .before .alt-wrong .ensures) ∙ c .if4 .taken))
 
@@ -61,24 +61,24 @@ genotype-wrong-requires c κs = search needs
 
 returns-5 : tie.Need-returns-5
 returns-5 c =
-    let l = c .before .before .before .before .before .before .before .before .before .before .before .before .before .before .args .line .now in
+    let l = c .before .before .before .before .before .before .before .before .before .before .before .before .before .before .before .args .line .now in
     sym
-    (first-row-not _ _ (sym (c .before .before .before .before .before .before .before .before .before .before .chrom-wrong .ensures) ∙ c .before .before .before .before .before .before .before .before .before .if1 .left)
-    ∙ first-row-not _ _ (ne-eqb _ _ (λ e. c .before .before .before .before .before .before .if2 .left (c .before .before .before .before .before .before .before .pos-on .ensures ∙ e)))
+    (first-row-not _ _ (sym (c .before .before .before .before .before .before .before .before .before .before .before .chrom-wrong .ensures) ∙ c .before .before .before .before .before .before .before .before .before .before .if1 .left)
+    ∙ first-row-not _ _ (ne-eqb _ _ (λ e. c .before .before .before .before .before .before .if2 .left (ap (λ (p : Pos). p .0) (c .before .before .before .before .before .before .before .before .pos-on .ensures) ∙ e)))
     ∙ first-row-not _ _ (sym (c .before .before .before .before .before .ref-wrong .ensures) ∙ c .before .before .before .before .if3 .left)
     ∙ first-row-not _ _ (sym (c .before .before .before .alt-wrong .ensures) ∙ c .before .before .if4 .left)
     ∙ first-row-holds _ _ (sym (c .before .genotype-wrong .ensures) ∙ c .if5 .taken))
 
 has-no-alt-requires : tie.Need-has-no-alt-requires
 has-no-alt-requires c κs =
-    (c .before .before .before .before .before .before .before .before .before .before .before .before .before .before .pre, c .before .before .before .before .before .before .before .before .fields-of .ensures, sym (c .before .genotype-wrong .ensures) ∙ c .if5 .left)
+    (c .before .before .before .before .before .before .before .before .before .before .before .before .before .before .before .pre, c .before .before .before .before .before .before .before .before .before .fields-of .ensures, sym (c .before .genotype-wrong .ensures) ∙ c .if5 .left)
 
 returns-6 : tie.Need-returns-6
 returns-6 c =
-    let l = c .before .before .before .before .before .before .before .before .before .before .before .before .before .before .before .before .args .line .now in
+    let l = c .before .before .before .before .before .before .before .before .before .before .before .before .before .before .before .before .before .args .line .now in
     sym
-    (first-row-not _ _ (sym (c .before .before .before .before .before .before .before .before .before .before .before .before .chrom-wrong .ensures) ∙ c .before .before .before .before .before .before .before .before .before .before .before .if1 .left)
-    ∙ first-row-not _ _ (ne-eqb _ _ (λ e. c .before .before .before .before .before .before .before .before .if2 .left (c .before .before .before .before .before .before .before .before .before .pos-on .ensures ∙ e)))
+    (first-row-not _ _ (sym (c .before .before .before .before .before .before .before .before .before .before .before .before .before .chrom-wrong .ensures) ∙ c .before .before .before .before .before .before .before .before .before .before .before .before .if1 .left)
+    ∙ first-row-not _ _ (ne-eqb _ _ (λ e. c .before .before .before .before .before .before .before .before .if2 .left (ap (λ (p : Pos). p .0) (c .before .before .before .before .before .before .before .before .before .before .pos-on .ensures) ∙ e)))
     ∙ first-row-not _ _ (sym (c .before .before .before .before .before .before .before .ref-wrong .ensures) ∙ c .before .before .before .before .before .before .if3 .left)
     ∙ first-row-not _ _ (sym (c .before .before .before .before .before .alt-wrong .ensures) ∙ c .before .before .before .before .if4 .left)
     ∙ first-row-not _ _ (sym (c .before .before .before .genotype-wrong .ensures) ∙ c .before .before .if5 .left)
@@ -89,46 +89,46 @@ is-off-reference-requires c κs = search needs
 
 returns-7 : tie.Need-returns-7
 returns-7 c =
-    let l = c .before .before .before .before .before .before .before .before .before .before .before .before .before .before .before .before .before .before .args .line .now in
-    let reference = c .before .before .before .before .before .before .before .before .before .before .before .before .before .before .before .before .before .before .args .reference .now in
+    let l = c .before .before .before .before .before .before .before .before .before .before .before .before .before .before .before .before .before .before .before .args .line .now in
+    let reference = c .before .before .before .before .before .before .before .before .before .before .before .before .before .before .before .before .before .before .before .args .reference .now in
     sym
-    (first-row-not _ _ (sym (c .before .before .before .before .before .before .before .before .before .before .before .before .before .before .chrom-wrong .ensures) ∙ c .before .before .before .before .before .before .before .before .before .before .before .before .before .if1 .left)
-    ∙ first-row-not _ _ (ne-eqb _ _ (λ e. c .before .before .before .before .before .before .before .before .before .before .if2 .left (c .before .before .before .before .before .before .before .before .before .before .before .pos-on .ensures ∙ e)))
+    (first-row-not _ _ (sym (c .before .before .before .before .before .before .before .before .before .before .before .before .before .before .before .chrom-wrong .ensures) ∙ c .before .before .before .before .before .before .before .before .before .before .before .before .before .before .if1 .left)
+    ∙ first-row-not _ _ (ne-eqb _ _ (λ e. c .before .before .before .before .before .before .before .before .before .before .if2 .left (ap (λ (p : Pos). p .0) (c .before .before .before .before .before .before .before .before .before .before .before .before .pos-on .ensures) ∙ e)))
     ∙ first-row-not _ _ (sym (c .before .before .before .before .before .before .before .before .before .ref-wrong .ensures) ∙ c .before .before .before .before .before .before .before .before .if3 .left)
     ∙ first-row-not _ _ (sym (c .before .before .before .before .before .before .before .alt-wrong .ensures) ∙ c .before .before .before .before .before .before .if4 .left)
     ∙ first-row-not _ _ (sym (c .before .before .before .before .before .genotype-wrong .ensures) ∙ c .before .before .before .before .if5 .left)
     ∙ first-row-not _ _ (sym (c .before .before .before .has-no-alt .ensures) ∙ c .before .before .if6 .left)
-    ∙ first-row-holds _ _ (sym (c .before .is-off-reference .ensures ∙ ap (λ (p : ℕ). offReference? reference p (field 3 l)) (c .before .before .before .before .before .before .before .before .before .before .before .pos-on .ensures)) ∙ c .if7 .taken))
+    ∙ first-row-holds _ _ (sym (c .before .is-off-reference .ensures ∙ ap (λ (p : Pos). offReference? reference p (field 3 l)) (c .before .before .before .before .before .before .before .before .before .before .before .before .pos-on .ensures)) ∙ c .if7 .taken))
 
 returns-8 : tie.Need-returns-8
 returns-8 c =
-    let l = c .before .before .before .before .before .before .before .before .before .before .before .before .before .before .before .before .before .before .before .args .line .now in
-    let reference = c .before .before .before .before .before .before .before .before .before .before .before .before .before .before .before .before .before .before .before .args .reference .now in
-    let last = c .before .before .before .before .before .before .before .before .before .before .before .before .before .before .before .before .before .before .before .args .last in
+    let l = c .before .before .before .before .before .before .before .before .before .before .before .before .before .before .before .before .before .before .before .before .before .before .args .line .now in
+    let reference = c .before .before .before .before .before .before .before .before .before .before .before .before .before .before .before .before .before .before .before .before .before .before .args .reference .now in
+    let last = c .before .before .before .before .before .before .before .before .before .before .before .before .before .before .before .before .before .before .before .before .before .before .args .last in
     sym
-    (first-row-not _ _ (sym (c .before .before .before .before .before .before .before .before .before .before .before .before .before .before .before .chrom-wrong .ensures) ∙ c .before .before .before .before .before .before .before .before .before .before .before .before .before .before .if1 .left)
-    ∙ first-row-not _ _ (ne-eqb _ _ (λ e. c .before .before .before .before .before .before .before .before .before .before .before .if2 .left (c .before .before .before .before .before .before .before .before .before .before .before .before .pos-on .ensures ∙ e)))
-    ∙ first-row-not _ _ (sym (c .before .before .before .before .before .before .before .before .before .before .ref-wrong .ensures) ∙ c .before .before .before .before .before .before .before .before .before .if3 .left)
-    ∙ first-row-not _ _ (sym (c .before .before .before .before .before .before .before .before .alt-wrong .ensures) ∙ c .before .before .before .before .before .before .before .if4 .left)
-    ∙ first-row-not _ _ (sym (c .before .before .before .before .before .before .genotype-wrong .ensures) ∙ c .before .before .before .before .before .if5 .left)
-    ∙ first-row-not _ _ (sym (c .before .before .before .before .has-no-alt .ensures) ∙ c .before .before .before .if6 .left)
-    ∙ first-row-not _ _ (sym (c .before .before .is-off-reference .ensures ∙ ap (λ (p : ℕ). offReference? reference p (field 3 l)) (c .before .before .before .before .before .before .before .before .before .before .before .before .pos-on .ensures)) ∙ c .before .if7 .left)
-    ∙ first-row-holds _ _ (ap (λ (p : ℕ). ltb p last) (sym (c .before .before .before .before .before .before .before .before .before .before .before .before .pos-on .ensures)) ∙ lt-ltb _ _ (c .if8 .taken)))
+    (first-row-not _ _ (sym (c .before .before .before .before .before .before .before .before .before .before .before .before .before .before .before .before .before .before .chrom-wrong .ensures) ∙ c .before .before .before .before .before .before .before .before .before .before .before .before .before .before .before .before .before .if1 .left)
+    ∙ first-row-not _ _ (ne-eqb _ _ (λ e. c .before .before .before .before .before .before .before .before .before .before .before .before .before .if2 .left (ap (λ (p : Pos). p .0) (c .before .before .before .before .before .before .before .before .before .before .before .before .before .before .before .pos-on .ensures) ∙ e)))
+    ∙ first-row-not _ _ (sym (c .before .before .before .before .before .before .before .before .before .before .before .before .ref-wrong .ensures) ∙ c .before .before .before .before .before .before .before .before .before .before .before .if3 .left)
+    ∙ first-row-not _ _ (sym (c .before .before .before .before .before .before .before .before .before .before .alt-wrong .ensures) ∙ c .before .before .before .before .before .before .before .before .before .if4 .left)
+    ∙ first-row-not _ _ (sym (c .before .before .before .before .before .before .before .before .genotype-wrong .ensures) ∙ c .before .before .before .before .before .before .before .if5 .left)
+    ∙ first-row-not _ _ (sym (c .before .before .before .before .before .before .has-no-alt .ensures) ∙ c .before .before .before .before .before .if6 .left)
+    ∙ first-row-not _ _ (sym (c .before .before .before .before .is-off-reference .ensures ∙ ap (λ (p : Pos). offReference? reference p (field 3 l)) (c .before .before .before .before .before .before .before .before .before .before .before .before .before .before .before .pos-on .ensures)) ∙ c .before .before .before .if7 .left)
+    ∙ first-row-holds _ _ (ap (λ (p : Pos). ltb (p .0) (last .0)) (sym (c .before .before .before .before .before .before .before .before .before .before .before .before .before .before .before .pos-on .ensures)) ∙ lt-ltb _ _ (c .if8 .taken)))
 
 returns-9 : tie.Need-returns-9
 returns-9 c =
-    let l = c .before .before .before .before .before .before .before .before .before .before .before .before .before .before .before .before .before .before .before .args .line .now in
-    let reference = c .before .before .before .before .before .before .before .before .before .before .before .before .before .before .before .before .before .before .before .args .reference .now in
-    let last = c .before .before .before .before .before .before .before .before .before .before .before .before .before .before .before .before .before .before .before .args .last in
+    let l = c .before .before .before .before .before .before .before .before .before .before .before .before .before .before .before .before .before .before .before .before .before .before .args .line .now in
+    let reference = c .before .before .before .before .before .before .before .before .before .before .before .before .before .before .before .before .before .before .before .before .before .before .args .reference .now in
+    let last = c .before .before .before .before .before .before .before .before .before .before .before .before .before .before .before .before .before .before .before .before .before .before .args .last in
     sym
-    (first-row-not _ _ (sym (c .before .before .before .before .before .before .before .before .before .before .before .before .before .before .before .chrom-wrong .ensures) ∙ c .before .before .before .before .before .before .before .before .before .before .before .before .before .before .if1 .left)
-    ∙ first-row-not _ _ (ne-eqb _ _ (λ e. c .before .before .before .before .before .before .before .before .before .before .before .if2 .left (c .before .before .before .before .before .before .before .before .before .before .before .before .pos-on .ensures ∙ e)))
-    ∙ first-row-not _ _ (sym (c .before .before .before .before .before .before .before .before .before .before .ref-wrong .ensures) ∙ c .before .before .before .before .before .before .before .before .before .if3 .left)
-    ∙ first-row-not _ _ (sym (c .before .before .before .before .before .before .before .before .alt-wrong .ensures) ∙ c .before .before .before .before .before .before .before .if4 .left)
-    ∙ first-row-not _ _ (sym (c .before .before .before .before .before .before .genotype-wrong .ensures) ∙ c .before .before .before .before .before .if5 .left)
-    ∙ first-row-not _ _ (sym (c .before .before .before .before .has-no-alt .ensures) ∙ c .before .before .before .if6 .left)
-    ∙ first-row-not _ _ (sym (c .before .before .is-off-reference .ensures ∙ ap (λ (p : ℕ). offReference? reference p (field 3 l)) (c .before .before .before .before .before .before .before .before .before .before .before .before .pos-on .ensures)) ∙ c .before .if7 .left)
-    ∙ first-row-not _ _ (ap (λ (p : ℕ). ltb p last) (sym (c .before .before .before .before .before .before .before .before .before .before .before .before .pos-on .ensures)) ∙ le-ltb _ _ (c .if8 .left))
+    (first-row-not _ _ (sym (c .before .before .before .before .before .before .before .before .before .before .before .before .before .before .before .before .before .before .chrom-wrong .ensures) ∙ c .before .before .before .before .before .before .before .before .before .before .before .before .before .before .before .before .before .if1 .left)
+    ∙ first-row-not _ _ (ne-eqb _ _ (λ e. c .before .before .before .before .before .before .before .before .before .before .before .before .before .if2 .left (ap (λ (p : Pos). p .0) (c .before .before .before .before .before .before .before .before .before .before .before .before .before .before .before .pos-on .ensures) ∙ e)))
+    ∙ first-row-not _ _ (sym (c .before .before .before .before .before .before .before .before .before .before .before .before .ref-wrong .ensures) ∙ c .before .before .before .before .before .before .before .before .before .before .before .if3 .left)
+    ∙ first-row-not _ _ (sym (c .before .before .before .before .before .before .before .before .before .before .alt-wrong .ensures) ∙ c .before .before .before .before .before .before .before .before .before .if4 .left)
+    ∙ first-row-not _ _ (sym (c .before .before .before .before .before .before .before .before .genotype-wrong .ensures) ∙ c .before .before .before .before .before .before .before .if5 .left)
+    ∙ first-row-not _ _ (sym (c .before .before .before .before .before .before .has-no-alt .ensures) ∙ c .before .before .before .before .before .if6 .left)
+    ∙ first-row-not _ _ (sym (c .before .before .before .before .is-off-reference .ensures ∙ ap (λ (p : Pos). offReference? reference p (field 3 l)) (c .before .before .before .before .before .before .before .before .before .before .before .before .before .before .before .pos-on .ensures)) ∙ c .before .before .before .if7 .left)
+    ∙ first-row-not _ _ (ap (λ (p : Pos). ltb (p .0) (last .0)) (sym (c .before .before .before .before .before .before .before .before .before .before .before .before .before .before .before .pos-on .ensures)) ∙ le-ltb _ _ (c .if8 .left))
     ∙ first-row-none [] tt)
 
 pub field-fault-spec : {M : Type 1} → statement M

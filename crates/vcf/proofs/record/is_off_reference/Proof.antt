@@ -6,6 +6,8 @@ use native.Mathlib.Omega.{arith}
 use borrow.Author.Needs.{needs}
 use lib.Dec.{lit<}
 use lib.ListN.{length, take, drop}
+use Rattle.bases.specs.declared.place.Place.{Place}
+use Rattle.bases.specs.Place.{placeOf}
 use Rattle.bases.specs.Same.{sameBases?}
 use Rattle.vcf.proofs.FieldLaws.{field-within, read}
 use Rattle.vcf.proofs.RecordLaws.{off-past, off-within, reference-read}
@@ -18,25 +20,27 @@ field-from-requires c κs =
     let l = c .before .before .args .line .now in
     omega (arith, read l (c .before .before .args .fields) (c .before .before .pre .1), field-within l 3 (c .before .before .pre .0) (lit< tt))
 
-sub-from : tie.Need-sub-from
-sub-from c = search needs
+place-of-requires : tie.Need-place-of-requires
+place-of-requires c κs = c .before .before .before .pre .2
 
 returns : tie.Need-returns
 returns c =
-    let r = c .before .before .before .before .args .reference .now in
-    let pos = c .before .before .before .before .args .pos in
-    let f = read (c .before .before .before .before .args .line .now) (c .before .before .before .before .args .fields) (c .before .before .before .before .pre .1) in
-    sym (off-past r pos (field 3 (c .before .before .before .before .args .line .now)) (omega arith))
+    let r = c .before .before .before .before .before .args .reference .now in
+    let pos = c .before .before .before .before .before .args .pos in
+    let f = read (c .before .before .before .before .before .args .line .now) (c .before .before .before .before .before .args .fields) (c .before .before .before .before .before .pre .1) in
+    let w = ap (λ (p : Place). p .0) (c .before .place-of .ensures) in
+    sym (off-past r pos (field 3 (c .before .before .before .before .before .args .line .now)) (omega arith))
 
 sub-if2 : tie.Need-sub-if2
 sub-if2 c = search needs
 
 returns-2 : tie.Need-returns-2
 returns-2 c =
-    let r = c .before .before .before .before .before .args .reference .now in
-    let pos = c .before .before .before .before .before .args .pos in
-    let e : c .before .before .field-from .result .now ≡ field 3 (c .before .before .before .before .before .args .line .now) = reference-read (c .before .before .before .before .before .args .line .now) (c .before .before .before .before .before .pre .1) (c .before .before .field-from .ensures) in
-    sym (off-past r pos (field 3 (c .before .before .before .before .before .args .line .now)) (rw (← e) (omega arith)))
+    let r = c .before .before .before .before .before .before .args .reference .now in
+    let pos = c .before .before .before .before .before .before .args .pos in
+    let e : c .before .before .before .field-from .result .now ≡ field 3 (c .before .before .before .before .before .before .args .line .now) = reference-read (c .before .before .before .before .before .before .args .line .now) (c .before .before .before .before .before .before .pre .1) (c .before .before .before .field-from .ensures) in
+    let w = ap (λ (p : Place). p .0) (c .before .before .place-of .ensures) in
+    sym (off-past r pos (field 3 (c .before .before .before .before .before .before .args .line .now)) (rw (← e) (omega arith)))
 
 add-end : tie.Need-add-end
 add-end c = search needs
@@ -55,14 +59,16 @@ same-bases-requires c κs = search needs
 
 returns-3 : tie.Need-returns-3
 returns-3 c =
-    let l = c .before .before .before .before .before .before .before .args .line .now in
-    let r = c .before .before .before .before .before .before .before .args .reference .now in
-    let pos = c .before .before .before .before .before .before .before .args .pos in
-    let e : c .before .before .before .before .field-from .result .now ≡ field 3 l = reference-read l (c .before .before .before .before .before .before .before .pre .1) (c .before .before .before .before .field-from .ensures) in
-    let b = c .before .before .before .before .field-from .result .now in
-    let n : pos - 1 + length b - (pos - 1) ≡ length b = omega arith in
-    let same : c .same-bases .result ≡ sameBases? (field 3 l) (take (length (field 3 l)) (drop (pos - 1) r)) =
-    c .same-bases .ensures ∙ rw (n, e) in
+    let l = c .before .before .before .before .before .before .before .before .args .line .now in
+    let r = c .before .before .before .before .before .before .before .before .args .reference .now in
+    let pos = c .before .before .before .before .before .before .before .before .args .pos in
+    let e : c .before .before .before .before .before .field-from .result .now ≡ field 3 l = reference-read l (c .before .before .before .before .before .before .before .before .pre .1) (c .before .before .before .before .before .field-from .ensures) in
+    let b = c .before .before .before .before .before .field-from .result .now in
+    let from = c .before .before .before .before .place-of .result .0 in
+    let w : from ≡ placeOf pos .0 = ap (λ (p : Place). p .0) (c .before .before .before .before .place-of .ensures) in
+    let n : from + length b - from ≡ length b = omega arith in
+    let same : c .same-bases .result ≡ sameBases? (field 3 l) (take (length (field 3 l)) (drop (placeOf pos .0) r)) =
+    c .same-bases .ensures ∙ rw (n, e, w) in
     ap not same ∙ sym (off-within r pos (field 3 l) (rw (← e) (omega arith)))
 
 pub is-off-reference-spec : {M : Type 1} → statement M
@@ -70,7 +76,7 @@ is-off-reference-spec =
     tie.close
     (tie.spec
     field-from-requires
-    sub-from
+    place-of-requires
     returns
     sub-if2
     returns-2
