@@ -12,6 +12,7 @@ use native.Mathlib.Omega.{arith}
 use borrow.Author.Tests.{ltb-true, ltb-false, le-leb, lt-ltb, le-ltb, ne-eqb, eq-eqb}
 use lib.Dec.{T, ltb, leb, eqb, leb→le, T-not}
 use lib.ListN.{length, getD, length-append}
+use Rattle.bases.specs.declared.place.Pos.{Pos}
 use Rattle.bases.proofs.TestLaws.{both, of-true, is-true}
 use Rattle.bases.specs.Pick.{pick}
 use Rattle.vcf.specs.Pos.{digit?, allDigits?, valueFrom, largestPos, isPos?, readPos}
@@ -86,9 +87,10 @@ digits-first (suc k) n h l = go (ltb n 10) refl (digits-first k (n / 10) h)
 pub decimal-digits : (n : ℕ) → T (allDigits? (decimal n))
 decimal-digits n = digits-digits 5 n
 
-pub decimal-pos : (n : ℕ) → 1 ≤ n → n ≤ largestPos → readPos (decimal n) ≡ n
+pub decimal-pos : (p : Pos) → 1 ≤ p .0 → p .0 ≤ largestPos → readPos (decimal (p .0)) ≡ p
 unfolding isPos?
-decimal-pos n l h =
+decimal-pos p l h =
+    let n = p .0 in
     let v : valueFrom 0 (decimal n) ≡ n = digits-value 5 n (fits-pos n h) in
     rw (is-true (allDigits? (decimal n)) (digits-digits 5 n), ne-eqb (getD (decimal n) 0 48) 48 (digits-first 5 n (fits-pos n h) l), v, le-leb n largestPos h)
 
@@ -148,7 +150,7 @@ digits-read zero f = λ t n h. absurd (omega (arith, value-some f t n))
 digits-read (suc k) [] = λ t n h. absurd (n refl)
 digits-read (suc k) (b ∷ bs) = let e = ends b bs in subst (Reads (suc k)) (sym (e .split)) (reads-last k (digits-read k) (e .init) (e .last))
 
-pub decimal-read : (f : List ℕ) → 1 ≤ readPos f → decimal (readPos f) ≡ f
+pub decimal-read : (f : List ℕ) → 1 ≤ readPos f .0 → decimal (readPos f .0) ≡ f
 unfolding isPos?
 decimal-read f h = go (isPos? f) refl h
   where

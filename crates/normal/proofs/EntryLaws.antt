@@ -15,6 +15,7 @@ use native.Mathlib.Omega.{arith}
 use lib.Dec.{eqb}
 use lib.ListN.{length, getD, drop, length-drop}
 use lib.Seq.{length-take-le}
+use Rattle.bases.specs.declared.place.Place.{Place}
 use Rattle.bases.specs.Letter.{basesOf}
 use Rattle.bases.specs.Pick.{pick}
 use Rattle.vcf.specs.declared.entry.Part.{Part}
@@ -70,15 +71,15 @@ last-three r s a text p q false = twin-cuts r s a (basesOf (bytesOf text p))
 
 -- REF of an entry, off the reference.
 abbrev pub refBytes : List ℕ → Entry → List ℕ
-refBytes reference e = bytesOf reference (part (startOf e) (e .reference .len))
+refBytes reference e = bytesOf reference (part (startOf e .0) (e .reference .len))
 
-pub entry-three : (reference text : List ℕ) (e : Entry) → cutsOf (basesOf reference) (three (startOf e) (basesOf (refBytes reference e)) (basesOf (bytesOf text (e .first))) (basesOf (bytesOf text (lastAlt e)))) ≡ cutsOf (basesOf reference) (formOf reference text e)
+pub entry-three : (reference text : List ℕ) (e : Entry) → cutsOf (basesOf reference) (three (startOf e .0) (basesOf (refBytes reference e)) (basesOf (bytesOf text (e .first))) (basesOf (bytesOf text (lastAlt e)))) ≡ cutsOf (basesOf reference) (formOf reference text e)
 entry-three reference text e =
-    last-three (basesOf reference) (startOf e) (basesOf (refBytes reference e)) text (e .first) (e .second) (eqb (e .alts) 2)
+    last-three (basesOf reference) (startOf e .0) (basesOf (refBytes reference e)) text (e .first) (e .second) (eqb (e .alts) 2)
 
-pub entry-cuts-are : (reference text : List ℕ) (e : Entry) {s : ℕ} {a b c : List ℕ} {l : Part} {k : Cuts} → s ≡ startOf e
-    → a ≡ bytesOf reference (part s (e .reference .len)) → b ≡ bytesOf text (e .first) → l ≡ lastAlt e → c ≡ bytesOf text l
-    → k ≡ cutsOf (basesOf reference) (three s (basesOf a) (basesOf b) (basesOf c)) → k ≡ cutsOf (basesOf reference) (formOf reference text e)
+pub entry-cuts-are : (reference text : List ℕ) (e : Entry) {s : Place} {a b c : List ℕ} {l : Part} {k : Cuts} → s ≡ startOf e
+    → a ≡ bytesOf reference (part (s .0) (e .reference .len)) → b ≡ bytesOf text (e .first) → l ≡ lastAlt e → c ≡ bytesOf text l
+    → k ≡ cutsOf (basesOf reference) (three (s .0) (basesOf a) (basesOf b) (basesOf c)) → k ≡ cutsOf (basesOf reference) (formOf reference text e)
 entry-cuts-are reference text e es ea eb el ec ek = let t = entry-three reference text e in cc
 
 -- How much is cut off an entry at most.
@@ -87,7 +88,7 @@ pub record Bounds (k : Cuts) (e : Entry) : Type 0 where
   pub ref : k .shortest ≤ e .reference .len
   pub first : k .shortest ≤ e .first .len
   pub second : k .shortest ≤ lastAlt e .len
-  pub back : k .back ≤ startOf e + k .shortest - 1
+  pub back : k .back ≤ startOf e .0 + k .shortest - 1
   pub front : k .front ≤ k .shortest - (k .back + 1)
 
 pub bounds : (reference text : List ℕ) (e : Entry) → Stands reference text e → (k : Cuts) → k ≡ cutsOf (basesOf reference) (formOf reference text e) → Bounds k e
@@ -98,7 +99,7 @@ bounds reference text e st k h =
     let t : k .front ≡ trimOf f (cutOf (basesOf reference) f) = ap (λ (z : Cuts). z .front) h in
     let least : k .shortest ≡ min (length (bytesOf text (e .first))) (min (length (bytesOf text (lastAlt e))) (length (refBytes reference e))) =
     m ∙ ap (λ (z : Cuts). z .shortest) (sym (entry-three reference text e)) ∙ three-shortest (refBytes reference e) (bytesOf text (e .first)) (bytesOf text (lastAlt e)) in
-    let a = part-length reference (part (startOf e) (e .reference .len)) (st .on) in
+    let a = part-length reference (part (startOf e .0) (e .reference .len)) (st .on) in
     let b = part-length text (e .first) (st .first) in
     let d = part-length text (lastAlt e) (st .second) in
     record {
@@ -106,7 +107,7 @@ bounds reference text e st k h =
       ref = omega arith;
       first = omega arith;
       second = omega arith;
-      back = omega (arith, run-le (backAlike? (basesOf reference) f) (startOf e + shortest (f .ref) (f .alts) - 1));
+      back = omega (arith, run-le (backAlike? (basesOf reference) f) (startOf e .0 + shortest (f .ref) (f .alts) - 1));
       front = omega (arith, run-le (frontAlike? f) (shortest (f .ref) (f .alts) - (cutOf (basesOf reference) f + 1)));
     }
 
@@ -114,6 +115,6 @@ pub spelled-is : (k : Cuts) (p : Part) {front at len : ℕ} → front ≡ takenI
     → _≡_ {A = Spelled} record { front = front; own = part at len } (spelled k p)
 spelled-is k p ef ea el = cc
 
-pub normal-entry-of : (reference text : List ℕ) (e : Entry) (s : ℕ) (k : Cuts) (g : ℕ) (a b : Spelled) → s ≡ startOf e → k ≡ cutsOf (basesOf reference) (formOf reference text e) → g ≡ takenIn k → a ≡ spelled k (e .first) → b ≡ spelled k (lastAlt e) → record { start = record { 0 = s + k .front - g }; span = s + e .reference .len - k .back - (s + k .front - g); first = a; second = b } ≡ normalEntry reference text e
+pub normal-entry-of : (reference text : List ℕ) (e : Entry) (s : Place) (k : Cuts) (g : ℕ) (a b : Spelled) → s ≡ startOf e → k ≡ cutsOf (basesOf reference) (formOf reference text e) → g ≡ takenIn k → a ≡ spelled k (e .first) → b ≡ spelled k (lastAlt e) → record { start = record { 0 = s .0 + k .front - g }; span = s .0 + e .reference .len - k .back - (s .0 + k .front - g); first = a; second = b } ≡ normalEntry reference text e
 unfolding normalEntry
 normal-entry-of reference text e s k g a b hs hk hg ha hb = cc

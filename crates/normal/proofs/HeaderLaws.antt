@@ -11,6 +11,8 @@ use Prim.Native.Nat.{ℕ, _+_}
 use native.Mathlib.Decide.{ℕ-discrete}
 use native.Mathlib.Omega.{arith}
 use lib.ListN.{length}
+use Rattle.bases.specs.declared.place.Pos.{Pos}
+use Rattle.vcf.specs.Pos.{noPos}
 use Rattle.bases.specs.Pick.{pick}
 use Rattle.vcf.specs.Entry.{headerBytes}
 use Rattle.vcf.specs.Header.{headerLine?}
@@ -50,7 +52,7 @@ header-bytes (l ∷ ls) = go (headerLine? l) (header-bytes ls)
     go false r = omega (arith, text-cons-length l [])
 
 module _ (reference name : List ℕ) where
-  pub records-judged : (records last n : ℕ) (ls : List (List ℕ)) → Records reference name records last ls → judgeLines reference name (belowAt records last) n ls .number ≡ 0
+  pub records-judged : (records : ℕ) (last : Pos) (n : ℕ) (ls : List (List ℕ)) → Records reference name records last ls → judgeLines reference name (belowAt records last) n ls .number ≡ 0
   records-judged records last n [] h = rw (judge-end-below reference name (belowAt records last) n refl)
   records-judged records last n (l ∷ ls) h =
       rw (judge-more reference name (belowAt records last) n l ls (first-row-none (recordRows reference name records last l) (h .0)))
@@ -63,7 +65,7 @@ module _ (reference name : List ℕ) where
     pub records : recordsOf (hs ++ rs) ≡ rs
 
   kept-cons : (n : ℕ) (l : List ℕ) (ls rs : List (List ℕ)) → firstRow (lineRows reference name above n l) ≡ 0 → judgeLines reference name (nextStage above l) (n + 1) ls .number ≡ 0
-      → (judgeLines reference name above (n + 1) ls .number ≡ 0 → Kept (n + 1) (headerOf ls) rs) → Records reference name 0 0 rs → Kept n (headerOf (l ∷ ls)) rs
+      → (judgeLines reference name above (n + 1) ls .number ≡ 0 → Kept (n + 1) (headerOf ls) rs) → Records reference name 0 noPos rs → Kept n (headerOf (l ∷ ls)) rs
   unfolding headerOf recordsOf
   kept-cons n l ls rs z e more h = go (headerLine? l) refl
     where
@@ -77,12 +79,12 @@ module _ (reference name : List ℕ) where
           }
       go false b =
           record {
-            judged = rw (judge-more reference name above n l rs z, next-column above l refl b) (records-judged 0 0 (n + 1) rs h);
+            judged = rw (judge-more reference name above n l rs z, next-column above l refl b) (records-judged 0 noPos (n + 1) rs h);
             header = rw b;
             records = rw b;
           }
 
-  pub header-kept : (n : ℕ) (ls rs : List (List ℕ)) → judgeLines reference name above n ls .number ≡ 0 → Records reference name 0 0 rs → Kept n (headerOf ls) rs
+  pub header-kept : (n : ℕ) (ls rs : List (List ℕ)) → judgeLines reference name above n ls .number ≡ 0 → Records reference name 0 noPos rs → Kept n (headerOf ls) rs
   header-kept n [] rs e h = absurd (let f = rw (judge-end-above reference name above n refl) at e in omega arith)
   header-kept n (l ∷ ls) rs e h = go (ℕ-discrete (firstRow (lineRows reference name above n l)) 0) (λ k. header-kept (n + 1) ls rs k h)
     where

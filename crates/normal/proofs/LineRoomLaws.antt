@@ -8,6 +8,7 @@ use mathlib.Core.List.{List, [], _∷_, _++_}
 use mathlib.Core.Path.{_≡_, _∙_}
 use Prim.Native.Nat.{ℕ, _+_, _-_, _≤_}
 use lib.ListN.{length, take, drop}
+use Rattle.bases.specs.declared.place.Pos.{Pos}
 use Rattle.vcf.specs.declared.field.Fields.{Fields}
 use Rattle.vcf.specs.Bytes.{LF, TAB, until}
 use Rattle.vcf.specs.Entry.{part, bytesOf}
@@ -18,12 +19,12 @@ use Rattle.normal.specs.Put.{frontWith, backWith}
 use Rattle.normal.specs.Written.{decimal, altsSpelled}
 use Rattle.bases.proofs.PutLaws.{room-front}
 
-module _ (l : List ℕ) (pos : ℕ) where
+module _ (l : List ℕ) (pos : Pos) where
   abbrev pub frontHead : List ℕ
   frontHead = take (fieldAt 1 l) l
 
   abbrev pub frontPos : List ℕ
-  frontPos = frontHead ++ decimal pos
+  frontPos = frontHead ++ decimal (pos .0)
 
   pub record FrontRoom (d : List ℕ) (at : ℕ) : Type 0 where
     pub head : at + length frontHead ≤ length d
@@ -34,7 +35,7 @@ module _ (l : List ℕ) (pos : ℕ) where
   front-room d at h =
       let end = fieldEnd l (fieldAt 1 l) in
       let new = room-front d at frontPos (take (fieldAt 3 l - end) (drop end l)) h in
-      record { head = room-front d at frontHead (decimal pos) new; new = new; all = h }
+      record { head = room-front d at frontHead (decimal (pos .0)) new; new = new; all = h }
 
 module _ (reference l : List ℕ) (count : ℕ) (n : NormalEntry) where
   abbrev pub backRef : List ℕ

@@ -11,6 +11,7 @@ use native.Mathlib.Omega.{arith}
 use borrow.Author.Tests.{le-leb}
 use lib.Dec.{T, eqb, leb}
 use lib.ListN.{length}
+use Rattle.bases.specs.Place.{placeOf}
 use Rattle.bases.specs.Letter.{allLetters?, basesOf}
 use Rattle.bases.specs.Pick.{pick}
 use Rattle.bases.specs.Same.{sameBases?}
@@ -56,7 +57,7 @@ not-same a b n = is-false (sameBases? a b) (λ t. n (same-iff (basesOf a) (bases
 
 -- The new REF and ALTs beside the old.
 pub record NewAlleles (reference l : List ℕ) : Type 0 where
-  pub end : newOn reference l .start .0 + length (newRef reference l) ≤ posOn l - 1 + length (field 3 l)
+  pub end : newOn reference l .start .0 + length (newRef reference l) ≤ placeOf (posOn l) .0 + length (field 3 l)
   pub ref-short : length (newRef reference l) ≤ length (field 3 l)
   pub first-short : length (newFirst reference l) ≤ length (firstAlt (field 4 l))
   pub second-short : T (twoAlts? (field 4 l)) → length (newSecond reference l) ≤ length (secondAlt (field 4 l))
@@ -70,7 +71,7 @@ module _ (reference l : List ℕ) (good : T (allLetters? reference)) (one : With
   abbrev e : Entry
   e = entryOf l 0
 
-  pub line-shrinks : Shrinks (eqb (altCount (field 4 l)) 2) (posOn l - 1) (basesOf (refBytes reference e)) (basesOf (bytesOf l (e .first))) (basesOf (bytesOf l (e .second))) (newOn reference l .start .0) (basesOf (newRef reference l)) (basesOf (newFirst reference l)) (basesOf (newSecond reference l))
+  pub line-shrinks : Shrinks (eqb (altCount (field 4 l)) 2) (placeOf (posOn l) .0) (basesOf (refBytes reference e)) (basesOf (bytesOf l (e .first))) (basesOf (bytesOf l (e .second))) (newOn reference l .start .0) (basesOf (newRef reference l)) (basesOf (newFirst reference l)) (basesOf (newSecond reference l))
   line-shrinks =
       let st = line-stands reference l good one line in
       shrinks (eqb (altCount (field 4 l)) 2) (basesOf reference) _ _ _ _ _ _ _ _ (form-on reference l e st) (form-some reference l e st) (line-normal reference l good one line)
@@ -79,7 +80,7 @@ module _ (reference l : List ℕ) (good : T (allLetters? reference)) (one : With
   twice t = rw (two-count (field 4 l)) t
 
   ref-length : length (basesOf (refBytes reference e)) ≡ length (field 3 l)
-  ref-length = bases-length (refBytes reference e) ∙ part-length reference (part (startOf e) (length (field 3 l))) (line-stands reference l good one line .on)
+  ref-length = bases-length (refBytes reference e) ∙ part-length reference (part (startOf e .0) (length (field 3 l))) (line-stands reference l good one line .on)
 
   first-length : length (basesOf (bytesOf l (e .first))) ≡ length (firstAlt (field 4 l))
   first-length = bases-length (bytesOf l (e .first)) ∙ ap length (first-is reference l good one line)

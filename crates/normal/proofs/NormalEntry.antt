@@ -33,13 +33,13 @@ same-start s h j = cc
 
 module _ (reference text : List ℕ) (e : Entry) (st : Stands reference text e) where
   ref-length : length (basesOf (refBytes reference e)) ≡ e .reference .len
-  ref-length = bases-length (refBytes reference e) ∙ part-length reference (part (startOf e) (e .reference .len)) (st .on)
+  ref-length = bases-length (refBytes reference e) ∙ part-length reference (part (startOf e .0) (e .reference .len)) (st .on)
 
   pub form-on : OnReference (basesOf reference) (formOf reference text e)
   form-on = (
     omega (arith, ref-length, bases-length reference),
-    ap (λ (n : ℕ). take n (drop (startOf e) (basesOf reference))) ref-length
-        ∙ sym (bases-part reference (startOf e) (e .reference .len)),
+    ap (λ (n : ℕ). take n (drop (startOf e .0) (basesOf reference))) ref-length
+        ∙ sym (bases-part reference (startOf e .0) (e .reference .len)),
   )
 
   some-part : (p : Part) → Within text p → 1 ≤ length (basesOf (bytesOf text p))
@@ -69,23 +69,23 @@ module _ (reference text : List ℕ) (e : Entry) (st : Stands reference text e) 
   kb = bounds reference text e st k refl
 
   -- What is left of an ALT.
-  left-of : (p : Part) → Within text p → k .shortest ≤ p .len → basesOf (bytesSpelled reference text n (spelled k p)) ≡ between (basesOf reference) (startOf e) (k .back) n (basesOf (bytesOf text p))
+  left-of : (p : Part) → Within text p → k .shortest ≤ p .len → basesOf (bytesSpelled reference text (record { 0 = n }) (spelled k p)) ≡ between (basesOf reference) (startOf e .0) (k .back) n (basesOf (bytesOf text p))
   left-of p w h =
-      spelled-between reference text (startOf e) p (k .back) (k .front) n (spelled k p .front) (spelled k p .own .len) (omega arith) w
-      (numbers (startOf e) (k .shortest) (p .len) (k .back) (k .front) (kb .some) h (kb .back) (kb .front))
+      spelled-between reference text (startOf e .0) p (k .back) (k .front) n (spelled k p .front) (spelled k p .own .len) (omega arith) w
+      (numbers (startOf e .0) (k .shortest) (p .len) (k .back) (k .front) (kb .some) h (kb .back) (kb .front))
 
   -- What is left of REF.
-  left-of-ref : basesOf (bytesOf reference (part n (startOf e + e .reference .len - k .back - n))) ≡ between (basesOf reference) (startOf e) (k .back) n (f .ref)
+  left-of-ref : basesOf (bytesOf reference (part n (startOf e .0 + e .reference .len - k .back - n))) ≡ between (basesOf reference) (startOf e .0) (k .back) n (f .ref)
   left-of-ref =
       let cut = normal-cut (basesOf reference) f form-on form-some in
-      let long = between-length (basesOf reference) (startOf e) (omega (arith, bases-length reference)) (f .ref) (k .back) n (cut .left (f .ref) (List·Memᴰ·head refl)) in
-      let span : startOf e + e .reference .len - k .back - n ≡ length (between (basesOf reference) (startOf e) (k .back) n (f .ref)) =
-      ap (λ (z : ℕ). startOf e + z - k .back - n) (sym ref-length) ∙ sym long in
-      bases-part reference n (startOf e + e .reference .len - k .back - n)
+      let long = between-length (basesOf reference) (startOf e .0) (omega (arith, bases-length reference)) (f .ref) (k .back) n (cut .left (f .ref) (List·Memᴰ·head refl)) in
+      let span : startOf e .0 + e .reference .len - k .back - n ≡ length (between (basesOf reference) (startOf e .0) (k .back) n (f .ref)) =
+      ap (λ (z : ℕ). startOf e .0 + z - k .back - n) (sym ref-length) ∙ sym long in
+      bases-part reference n (startOf e .0 + e .reference .len - k .back - n)
       ∙ ap (λ (z : ℕ). take z (drop n (basesOf reference))) span
       ∙ cut-on (basesOf reference) f form-on (k .back) n cut .1
 
-  left-of-alts : (t : Bool) → Within text (pick t (e .second) (e .first)) → k .shortest ≤ pick t (e .second) (e .first) .len → pick t (basesOf (bytesSpelled reference text n (spelled k (e .first))) ∷ basesOf (bytesSpelled reference text n (spelled k (pick t (e .second) (e .first)))) ∷ []) (basesOf (bytesSpelled reference text n (spelled k (e .first))) ∷ []) ≡ map (between (basesOf reference) (startOf e) (k .back) n) (pick t (basesOf (bytesOf text (e .first)) ∷ basesOf (bytesOf text (e .second)) ∷ []) (basesOf (bytesOf text (e .first)) ∷ []))
+  left-of-alts : (t : Bool) → Within text (pick t (e .second) (e .first)) → k .shortest ≤ pick t (e .second) (e .first) .len → pick t (basesOf (bytesSpelled reference text (record { 0 = n }) (spelled k (e .first))) ∷ basesOf (bytesSpelled reference text (record { 0 = n }) (spelled k (pick t (e .second) (e .first)))) ∷ []) (basesOf (bytesSpelled reference text (record { 0 = n }) (spelled k (e .first))) ∷ []) ≡ map (between (basesOf reference) (startOf e .0) (k .back) n) (pick t (basesOf (bytesOf text (e .first)) ∷ basesOf (bytesOf text (e .second)) ∷ []) (basesOf (bytesOf text (e .first)) ∷ []))
   left-of-alts true w h = let a = left-of (e .first) (st .first) (kb .first) in let b = left-of (e .second) w h in cc
   left-of-alts false w h = let a = left-of (e .first) (st .first) (kb .first) in cc
 

@@ -11,6 +11,7 @@ use native.Mathlib.Omega.{arith}
 use lib.Dec.{T, eqb, leb, leb→le}
 use lib.ListN.{length, take, drop, length-drop}
 use lib.Seq.{take-length, length-take-le}
+use Rattle.bases.specs.declared.place.Place.{Place}
 use Rattle.bases.specs.Letter.{isLetter?, allLetters?, basesOf}
 use Rattle.bases.specs.Pick.{pick}
 use Rattle.bases.proofs.PartLaws.{part-part}
@@ -53,11 +54,11 @@ letters-drop zero f h = h
 letters-drop (suc n) [] h = tt
 letters-drop (suc n) (b ∷ f) h = letters-drop n f (both (isLetter? b) (allLetters? f) .0 h .1)
 
-pub letters-spelled : (reference l : List ℕ) (s : ℕ) (c : Cuts) (p : Part) → T (allLetters? reference) → T (allLetters? (bytesOf l p)) → c .front ≤ p .len
+pub letters-spelled : (reference l : List ℕ) (s : Place) (c : Cuts) (p : Part) → T (allLetters? reference) → T (allLetters? (bytesOf l p)) → c .front ≤ p .len
     → T (allLetters? (bytesSpelled reference l s (spelled c p)))
 letters-spelled reference l s c p h k f =
     let a = spelled c p in
-    letters-append (take (a .front) (drop s reference)) (bytesOf l (a .own)) (letters-take (a .front) (drop s reference) (letters-drop s reference h))
+    letters-append (take (a .front) (drop (s .0) reference)) (bytesOf l (a .own)) (letters-take (a .front) (drop (s .0) reference) (letters-drop (s .0) reference h))
     (subst (λ (x : List ℕ). T (allLetters? x)) (part-part l (p .at) (p .len) (c .front) (a .own .len) (omega arith))
     (letters-take (a .own .len) (drop (c .front) (bytesOf l p)) (letters-drop (c .front) (bytesOf l p) k)))
 
@@ -144,11 +145,11 @@ module _ (reference l : List ℕ) (good : T (allLetters? reference)) (one : With
 
   pub first-letters : T (allLetters? (newFirst reference l))
   unfolding normalEntry
-  first-letters = letters-spelled reference l (newOn reference l .start .0) k (e .first) good (rw first-is (the-first .letters)) (omega (arith, kb .front, kb .first))
+  first-letters = letters-spelled reference l (newOn reference l .start) k (e .first) good (rw first-is (the-first .letters)) (omega (arith, kb .front, kb .first))
 
   pub second-letters : T (allLetters? (newSecond reference l))
   unfolding normalEntry
-  second-letters = letters-spelled reference l (newOn reference l .start .0) k (lastAlt e) good last-letters (omega (arith, kb .front, kb .second))
+  second-letters = letters-spelled reference l (newOn reference l .start) k (lastAlt e) good last-letters (omega (arith, kb .front, kb .second))
 
   pub line-normal : NormalForm (basesOf reference) (formOf reference l e) (formSpelled reference l (e .alts) (newOn reference l))
   line-normal = normal-entry-is reference l e line-stands

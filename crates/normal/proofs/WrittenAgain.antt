@@ -10,6 +10,8 @@ use Prim.Native.Nat.{ℕ, _+_, _-_, _≤_}
 use native.Mathlib.Omega.{arith}
 use lib.Dec.{T, eqb}
 use lib.ListN.{length, take, drop}
+use Rattle.bases.specs.declared.place.Pos.{Pos}
+use Rattle.bases.specs.Place.{placeOf}
 use Rattle.bases.specs.Letter.{isLetter?, allLetters?, letterOf, among?, basesOf}
 use Rattle.bases.specs.Pick.{pick}
 use Rattle.bases.specs.Reference.{longestReference}
@@ -82,7 +84,7 @@ module _ (reference l : List ℕ) (good : T (allLetters? reference)) (one : With
       let s2 = then-parts LF (field 2 l) _ (s1 .1) in
       let s3 = then-parts LF (field 3 l) _ (s2 .1) in
       let s4 = then-parts LF (field 4 l) _ (s3 .1) in
-      then-without LF (field 0 l) _ refl (s0 .0) (then-without LF (decimal (newPos reference l)) _ refl (pos-without reference l good one line LF refl)
+      then-without LF (field 0 l) _ refl (s0 .0) (then-without LF (decimal (newPos reference l .0)) _ refl (pos-without reference l good one line LF refl)
       (then-without LF (field 2 l) _ refl (s2 .0) (then-without LF (newRef reference l) _ refl (ref-without reference l good one line LF refl)
       (then-without LF (newAlt reference l) _ refl (alt-is-without reference l good one line LF refl refl) (s4 .1)))))
 
@@ -104,13 +106,13 @@ module _ (reference l : List ℕ) (good : T (allLetters? reference)) (one : With
     two-written : twoAlts? (field 4 m) ≡ twoAlts? (field 4 l)
     two-written = ap twoAlts? (written-4 reference l good one line) ∙ new-two reference l good one line
 
-    same-start : posOn m - 1 ≡ newOn reference l .start .0
-    same-start = omega (arith, written-pos reference l good one line fits)
+    same-start : placeOf (posOn m) .0 ≡ newOn reference l .start .0
+    same-start = omega (arith, ap (λ (p : Pos). p .0) (written-pos reference l good one line fits))
 
     pub written-form : formOf reference m (entryOf m 0) ≡ formSpelled reference l (altCount (field 4 l)) (newOn reference l)
     written-form =
         let s = newOn reference l .start .0 in
-        let ref : basesOf (bytesOf reference (part (posOn m - 1) (length (field 3 m)))) ≡ basesOf (newRef reference l) =
+        let ref : basesOf (bytesOf reference (part (placeOf (posOn m) .0) (length (field 3 m)))) ≡ basesOf (newRef reference l) =
         ap basesOf (ap (λ (n : ℕ). take (length (field 3 m)) (drop n reference)) same-start
         ∙ ap (λ (f : List ℕ). take (length f) (drop s reference)) (written-3 reference l good one line)
         ∙ take-own (newOn reference l .span) (drop s reference)) in

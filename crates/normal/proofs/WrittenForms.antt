@@ -13,6 +13,8 @@ use native.Mathlib.Omega.{arith}
 use lib.Dec.{T, eqb, ltb, lit<}
 use lib.ListN.{length, take, drop}
 use lib.Seq.{take-at, drop-append-add, drop-drop}
+use Rattle.vcf.specs.Pos.{noPos}
+use Rattle.bases.specs.declared.place.Pos.{Pos}
 use Rattle.bases.specs.Letter.{basesOf}
 use Rattle.bases.specs.Pick.{pick}
 use Rattle.bases.specs.Reference.{isReference?}
@@ -75,7 +77,7 @@ module _ (reference : List ℕ) where
   -- A record read, put among records by new POS: behind each whose new POS is not above its own.
   unfoldable pub putRead : List ℕ → List (List ℕ) → List (List ℕ)
   putRead l [] = l ∷ []
-  putRead l (m ∷ ms) = let more = putRead l ms in pick (ltb (newPos reference l) (newPos reference m)) (l ∷ m ∷ ms) (m ∷ more)
+  putRead l (m ∷ ms) = let more = putRead l ms in pick (ltb (newPos reference l .0) (newPos reference m .0)) (l ∷ m ∷ ms) (m ∷ more)
 
   -- The records read, by new POS, equal POS in the order read.
   unfoldable pub inOrder : List (List ℕ) → List (List ℕ) → List (List ℕ)
@@ -85,7 +87,7 @@ module _ (reference : List ℕ) where
   put-read-all : (P : List ℕ → Type 0) (l : List ℕ) (ms : List (List ℕ)) → P l → All P ms → All P (putRead l ms)
   unfolding putRead
   put-read-all P l [] h k = (h, tt)
-  put-read-all P l (m ∷ ms) h k = go (ltb (newPos reference l) (newPos reference m)) (put-read-all P l ms h (k .1))
+  put-read-all P l (m ∷ ms) h k = go (ltb (newPos reference l .0) (newPos reference m .0)) (put-read-all P l ms h (k .1))
     where
       go : (u : Bool) → All P (putRead l ms) → All P (pick u (l ∷ m ∷ ms) (m ∷ putRead l ms))
       go true r = (h, k)
@@ -103,7 +105,7 @@ module _ (reference : List ℕ) where
   put-map : (l : List ℕ) (ms : List (List ℕ)) → At l → All At ms → putLine (writtenLine reference l) (map (writtenLine reference) ms) ≡ map (writtenLine reference) (putRead l ms)
   unfolding putLine putRead
   put-map l [] h k = refl
-  put-map l (m ∷ ms) h k = rw (h, k .0) (go (ltb (newPos reference l) (newPos reference m)) (put-map l ms h (k .1)))
+  put-map l (m ∷ ms) h k = rw (ap (λ (p : Pos). p .0) h, ap (λ (p : Pos). p .0) (k .0)) (go (ltb (newPos reference l .0) (newPos reference m .0)) (put-map l ms h (k .1)))
     where
       go : (u : Bool) → putLine (writtenLine reference l) (map (writtenLine reference) ms) ≡ map (writtenLine reference) (putRead l ms)
           → pick u (writtenLine reference l ∷ writtenLine reference m ∷ map (writtenLine reference) ms) (writtenLine reference m ∷ putLine (writtenLine reference l) (map (writtenLine reference) ms))
@@ -130,12 +132,12 @@ module _ (reference name : List ℕ) (ok : T (isReference? reference)) where
 
   wrote-stands : (m : List ℕ) → Wrote reference name ok m → Stands reference m (entryOf m 0)
   wrote-stands m w =
-      line-stands reference m (letters-of reference ok) (w .free) (record-line reference name 0 0 m (w .rows 0 0 (lit< tt) (omega arith)))
+      line-stands reference m (letters-of reference ok) (w .free) (record-line reference name 0 noPos m (w .rows 0 noPos (lit< tt) (omega arith)))
 
   written-line-form : (l : List ℕ) → Read reference name ok l → lineForm reference (writtenLine reference l) ≡ formSpelled reference l (altCount (field 4 l)) (newOn reference l)
   written-line-form l r =
       written-form reference l (letters-of reference ok) (r .free) (r .line) (fits-of reference ok)
-      (record-line reference name 0 0 (writtenLine reference l) (r .rows 0 0 (lit< tt) (omega arith)))
+      (record-line reference name 0 noPos (writtenLine reference l) (r .rows 0 noPos (lit< tt) (omega arith)))
 
   pub written-normal : (l : List ℕ) → Read reference name ok l → NormalForm (basesOf reference) (lineForm reference l) (lineForm reference (writtenLine reference l))
   written-normal l r = rw (written-line-form l r) (line-normal reference l (letters-of reference ok) (r .free) (r .line))

@@ -39,7 +39,7 @@ alt-without x false a b e h k = h
 module _ (reference l : List ℕ) (good : T (allLetters? reference)) (one : Without LF l) (line : RecordLine reference l) where
   -- POS, REF and ALT as they are written.
   abbrev pos : List ℕ
-  pos = decimal (newPos reference l)
+  pos = decimal (newPos reference l .0)
 
   abbrev ref : List ℕ
   ref = newRef reference l
@@ -58,7 +58,7 @@ module _ (reference l : List ℕ) (good : T (allLetters? reference)) (one : With
 
   -- They hold no byte x that is no letter, no digit and no comma.
   pub pos-without : (x : ℕ) → digit? x ≡ false → Without x pos
-  pos-without x n = without-digits x pos n (decimal-digits (newPos reference l))
+  pos-without x n = without-digits x pos n (decimal-digits (newPos reference l .0))
 
   pub ref-without : (x : ℕ) → isLetter? x ≡ false → Without x ref
   ref-without x n = without-letters x ref n (ref-letters reference l good one line)
@@ -129,22 +129,22 @@ module _ (reference l : List ℕ) (good : T (allLetters? reference)) (one : With
   written-ten =
       let some : (k : ℕ) → k < 10 → 1 ≤ length (field k l) = λ k h. field-some l k (line .ten) h in
       let a = ten-fields (field 0 l) pos (field 2 l) ref alt rest (field-free 0) pos-free (field-free 2) ref-free alt-free
-      (some 0 (lit< tt)) (decimal-some (newPos reference l)) (some 2 (lit< tt)) ref-some alt-some in
+      (some 0 (lit< tt)) (decimal-some (newPos reference l .0)) (some 2 (lit< tt)) ref-some alt-some in
       let b = ten-fields (field 0 l) (field 1 l) (field 2 l) (field 3 l) (field 4 l) rest (field-free 0) (field-free 1) (field-free 2) (field-free 3) (field-free 4)
       (some 0 (lit< tt)) (some 1 (lit< tt)) (some 2 (lit< tt)) (some 3 (lit< tt)) (some 4 (lit< tt)) in
       subst T (ap tenFields? (line-record l (line .ten)) ∙ b ∙ sym a) (line .ten)
 
   pos-length : length pos + length ref ≤ length (field 1 l) + length (field 3 l)
-  pos-length = ⊎-elim left right (le-or-lt (newPos reference l) (posOn l))
+  pos-length = ⊎-elim left right (le-or-lt (newPos reference l .0) (posOn l .0))
     where
-      old : length (decimal (posOn l)) ≡ length (field 1 l)
+      old : length (decimal (posOn l .0)) ≡ length (field 1 l)
       old = ap length (decimal-read (field 1 l) (line .pos))
 
-      left : newPos reference l ≤ posOn l → length pos + length ref ≤ length (field 1 l) + length (field 3 l)
-      left h = omega (arith, decimal-le (newPos reference l) (posOn l) h, old, new .ref-short)
+      left : newPos reference l .0 ≤ posOn l .0 → length pos + length ref ≤ length (field 1 l) + length (field 3 l)
+      left h = omega (arith, decimal-le (newPos reference l .0) (posOn l .0) h, old, new .ref-short)
 
-      right : posOn l < newPos reference l → length pos + length ref ≤ length (field 1 l) + length (field 3 l)
-      right h = omega (arith, decimal-add (posOn l) (newPos reference l) (omega arith), old, new .end, line .pos)
+      right : posOn l .0 < newPos reference l .0 → length pos + length ref ≤ length (field 1 l) + length (field 3 l)
+      right h = omega (arith, decimal-add (posOn l .0) (newPos reference l .0) (omega arith), old, new .end, line .pos)
 
   alt-short : length alt ≤ length (field 4 l)
   alt-short = go (twoAlts? (field 4 l)) (λ t. t)

@@ -15,6 +15,8 @@ use borrow.Author.Tests.{eqb-true, not-false, eq-eqb, le-ltb}
 use lib.Dec.{T, eqb, ltb, lit<}
 use lib.ListN.{length, getD, take, drop, length-append}
 use lib.Seq.{take-at, drop-at}
+use Rattle.bases.specs.declared.place.Pos.{Pos}
+use Rattle.vcf.specs.Pos.{noPos}
 use Rattle.bases.specs.Reference.{isReference?}
 use Rattle.bases.proofs.TestLaws.{neither}
 use Rattle.vcf.specs.Bytes.{LF}
@@ -41,12 +43,12 @@ module _ (reference name : List ℕ) (ok : T (isReference? reference)) where
   pub record Read (l : List ℕ) : Type 0 where
     pub free : Without LF l
     pub line : RecordLine reference l
-    pub rows : (n before : ℕ) → n < mostRecords → before ≤ newPos reference l → NoneHolds (recordRows reference name n before (writtenLine reference l))
+    pub rows : (n : ℕ) (before : Pos) → n < mostRecords → before .0 ≤ newPos reference l .0 → NoneHolds (recordRows reference name n before (writtenLine reference l))
 
   -- A line that was written: no row holds on it where it stands in order, and it is written as it stands.
   pub record Wrote (m : List ℕ) : Type 0 where
     pub free : Without LF m
-    pub rows : (n before : ℕ) → n < mostRecords → before ≤ posOn m → NoneHolds (recordRows reference name n before m)
+    pub rows : (n : ℕ) (before : Pos) → n < mostRecords → before .0 ≤ posOn m .0 → NoneHolds (recordRows reference name n before m)
     pub again : writtenLine reference m ≡ m
 
   wrote : (l : List ℕ) → Read l → Wrote (writtenLine reference l)
@@ -54,14 +56,14 @@ module _ (reference name : List ℕ) (ok : T (isReference? reference)) where
       let good = letters-of reference ok in
       let fits = fits-of reference ok in
       let pos = written-pos reference l good (r .free) (r .line) fits in
-      let new = record-line reference name 0 0 (writtenLine reference l) (r .rows 0 0 (lit< tt) (omega arith)) in
+      let new = record-line reference name 0 noPos (writtenLine reference l) (r .rows 0 noPos (lit< tt) (omega arith)) in
       record {
         free = written-free reference l good (r .free) (r .line);
-        rows = λ n before h k. r .rows n before h (rw pos at k);
+        rows = λ n before h k. r .rows n before h (rw (ap (λ (p : Pos). p .0) pos) at k);
         again = written-again reference l good (r .free) (r .line) fits new;
       }
 
-  read-all : (records last : ℕ) (ls : List (List ℕ)) → All (Without LF) ls → Records reference name records last ls → All Read ls
+  read-all : (records : ℕ) (last : Pos) (ls : List (List ℕ)) → All (Without LF) ls → Records reference name records last ls → All Read ls
   read-all records last [] f h = tt
   read-all records last (l ∷ ls) f h = (
     record {
@@ -72,7 +74,7 @@ module _ (reference name : List ℕ) (ok : T (isReference? reference)) where
     read-all (records + 1) (posOn l) ls (f .1) (h .1),
   )
 
-  wrote-records : (n before : ℕ) (ms : List (List ℕ)) → All Wrote ms → Ordered before ms → n + length ms ≤ mostRecords → Records reference name n before ms
+  wrote-records : (n : ℕ) (before : Pos) (ms : List (List ℕ)) → All Wrote ms → Ordered before ms → n + length ms ≤ mostRecords → Records reference name n before ms
   wrote-records n before [] h o k = tt
   wrote-records n before (m ∷ ms) h o k = (h .0 .rows n before (omega arith) (o .0), wrote-records (n + 1) (posOn m) ms (h .1) (o .1) (omega arith))
 
@@ -122,8 +124,8 @@ module _ (reference name : List ℕ) (ok : T (isReference? reference)) where
     pub all-wrote : All Wrote ws
     all-wrote = written-all reference Wrote Read wrote [] rs tt all-read
 
-    wrote-clear : Records reference name 0 0 ws
-    wrote-clear = wrote-records 0 0 ws all-wrote (written-ordered reference [] rs tt) (omega (arith, ap length record-lines, accepted-few-lines reference name t accepted, written-count reference [] rs))
+    wrote-clear : Records reference name 0 noPos ws
+    wrote-clear = wrote-records 0 noPos ws all-wrote (written-ordered reference [] rs tt) (omega (arith, ap length record-lines, accepted-few-lines reference name t accepted, written-count reference [] rs))
 
     pub text-written : writtenText reference t ≡ textOf (hs ++ ws)
     unfolding writtenText

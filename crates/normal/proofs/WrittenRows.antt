@@ -11,6 +11,7 @@ use native.Mathlib.Omega.{arith}
 use borrow.Author.Tests.{ltb-false, le-ltb, le-leb, lt-leb, ne-eqb}
 use lib.Dec.{T, leb, lit<}
 use lib.ListN.{length, take, drop}
+use Rattle.bases.specs.declared.place.Pos.{Pos}
 use Rattle.bases.specs.Letter.{allLetters?, letterOf, among?, basesOf}
 use Rattle.bases.specs.Pick.{pick}
 use Rattle.bases.specs.Reference.{isReference?, longestReference}
@@ -99,7 +100,7 @@ letters-of reference ok = both (leb 1 (length reference) && leb (length referenc
 pub fits-of : (reference : List ℕ) → T (isReference? reference) → length reference ≤ longestReference
 fits-of reference ok = reference-iff reference .0 ok .1
 
-module _ (reference name l : List ℕ) (records last : ℕ) (ok : T (isReference? reference)) (one : Without LF l) (z : NoneHolds (recordRows reference name records last l)) where
+module _ (reference name l : List ℕ) (records : ℕ) (last : Pos) (ok : T (isReference? reference)) (one : Without LF l) (z : NoneHolds (recordRows reference name records last l)) where
   good : T (allLetters? reference)
   good = letters-of reference ok
 
@@ -109,11 +110,11 @@ module _ (reference name l : List ℕ) (records last : ℕ) (ok : T (isReference
   line : RecordLine reference l
   line = record-line reference name records last l z
 
-  pub written-rows : (n before : ℕ) → n < mostRecords → before ≤ newPos reference l → NoneHolds (recordRows reference name n before (writtenLine reference l))
+  pub written-rows : (n : ℕ) (before : Pos) → n < mostRecords → before .0 ≤ newPos reference l .0 → NoneHolds (recordRows reference name n before (writtenLine reference l))
   written-rows n before h k =
       let short = written-short reference l good one line in
       let ten = is-true (tenFields? (writtenLine reference l)) (written-ten reference l good one line) in
-      let pos = written-pos reference l good one line fits in
+      let pos = ap (λ (p : Pos). p .0) (written-pos reference l good one line fits) in
       let ref = written-3 reference l good one line in
       let rows = z .1 .1 .1 .1 in (
         le-ltb longestLine (length (writtenLine reference l)) (omega (arith, ltb-false longestLine (length l) (z .0))),
@@ -126,7 +127,7 @@ module _ (reference name l : List ℕ) (records last : ℕ) (ok : T (isReference
               (
                 rw (written-0 reference l good one line) (rows .0),
                 (
-                  rw pos (ne-eqb (newPos reference l) 0 (λ e. omega arith)),
+                  rw pos (ne-eqb (newPos reference l .0) 0 (λ e. omega arith)),
                   (
                     rw (ref, is-true (isAllele? (newRef reference l)) (new reference l good one line .ref)),
                     (
@@ -137,7 +138,7 @@ module _ (reference name l : List ℕ) (records last : ℕ) (ok : T (isReference
                           rw (written-9 reference l good one line) (rows .1 .1 .1 .1 .1 .0),
                           (
                             rw (pos, ref) (on-reference reference l good one line),
-                            (rw pos (le-ltb (newPos reference l) before k), tt),
+                            (rw pos (le-ltb (newPos reference l .0) (before .0) k), tt),
                           ),
                         ),
                       ),

@@ -4,6 +4,7 @@ use mathlib.Core.List.{List, [], _∷_, _++_}
 use Prim.Native.Nat.{ℕ, _+_, _-_, _/_, _%_}
 use lib.Dec.{leb}
 use lib.ListN.{take, drop}
+use Rattle.bases.specs.declared.place.Pos.{Pos}
 use Rattle.bases.specs.Pick.{pick}
 use Rattle.vcf.specs.Bytes.{LF, TAB}
 use Rattle.vcf.specs.Entry.{part, bytesOf}
@@ -16,10 +17,10 @@ abbrev pub digitAt : ℕ → ℕ → List ℕ
 digitAt n unit = pick (leb unit n) ((48 + n / unit % 10) ∷ []) []
 
 -- A line up to its REF, with another POS.
-abbrev pub frontWith : List ℕ → ℕ → List ℕ
+abbrev pub frontWith : List ℕ → Pos → List ℕ
 frontWith l pos =
     let end = fieldEnd l (fieldAt 1 l) in
-    take (fieldAt 1 l) l ++ decimal pos ++ take (fieldAt 3 l - end) (drop end l)
+    take (fieldAt 1 l) l ++ decimal (pos .0) ++ take (fieldAt 3 l - end) (drop end l)
 
 -- A line from its REF on, with the REF and so many ALTs of a normal form, and its LF.
 abbrev pub backWith : List ℕ → List ℕ → ℕ → NormalEntry → List ℕ

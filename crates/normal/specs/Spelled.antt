@@ -6,6 +6,7 @@ use lib.Dec.{eqb}
 use lib.ListN.{length, take, drop}
 use Rattle.bases.specs.Letter.{basesOf}
 use Rattle.bases.specs.Pick.{pick}
+use Rattle.bases.specs.declared.place.Place.{Place}
 use Rattle.bases.specs.Place.{placeOf}
 use Rattle.vcf.specs.declared.entry.Part.{Part}
 use Rattle.vcf.specs.declared.entry.Entry.{Entry}
@@ -42,8 +43,8 @@ spelled c p =
     }
 
 -- The place where an entry starts; its last ALT.
-abbrev pub startOf : Entry → ℕ
-startOf e = placeOf (e .pos) .0
+abbrev pub startOf : Entry → Place
+startOf e = placeOf (e .pos)
 
 abbrev pub lastAlt : Entry → Part
 lastAlt e = pick (eqb (e .alts) 2) (e .second) (e .first)
@@ -52,8 +53,8 @@ lastAlt e = pick (eqb (e .alts) 2) (e .second) (e .first)
 abbrev pub formOf : List ℕ → List ℕ → Entry → Form
 formOf reference text e =
     record {
-      start = startOf e;
-      ref = basesOf (bytesOf reference (part (startOf e) (e .reference .len)));
+      start = startOf e .0;
+      ref = basesOf (bytesOf reference (part (startOf e .0) (e .reference .len)));
       alts =
           pick (eqb (e .alts) 2)
           (basesOf (bytesOf text (e .first)) ∷ basesOf (bytesOf text (e .second)) ∷ [])
@@ -67,7 +68,7 @@ Within text p = (1 ≤ p .len) × (p .at + p .len ≤ length text)
 -- The entry stands on the reference and in the text, and none of its alleles is empty.
 pub record Stands (reference text : List ℕ) (e : Entry) : Type 0 where
   pub pos : 1 ≤ e .pos .0
-  pub on : Within reference (part (startOf e) (e .reference .len))
+  pub on : Within reference (part (startOf e .0) (e .reference .len))
   pub first : Within text (e .first)
   pub second : Within text (lastAlt e)
 
@@ -78,18 +79,18 @@ normalEntry reference text e =
     let c = cutsOf (basesOf reference) f in
     record {
       start = record { 0 = newStart f (c .back) (c .front) };
-      span = startOf e + e .reference .len - c .back - newStart f (c .back) (c .front);
+      span = startOf e .0 + e .reference .len - c .back - newStart f (c .back) (c .front);
       first = spelled c (e .first);
       second = spelled c (lastAlt e);
     }
 
 -- The bytes of an allele of it, where it starts at p.
-abbrev pub bytesSpelled : List ℕ → List ℕ → ℕ → Spelled → List ℕ
-bytesSpelled reference text p a = take (a .front) (drop p reference) ++ bytesOf text (a .own)
+abbrev pub bytesSpelled : List ℕ → List ℕ → Place → Spelled → List ℕ
+bytesSpelled reference text p a = take (a .front) (drop (p .0) reference) ++ bytesOf text (a .own)
 
 -- Its bases of the reference stand on the reference, and its own in the text.
-abbrev pub OnBoth : List ℕ → List ℕ → ℕ → Spelled → Type 0
-OnBoth reference text p a = (p + a .front ≤ length reference) × (a .own .at + a .own .len ≤ length text)
+abbrev pub OnBoth : List ℕ → List ℕ → Place → Spelled → Type 0
+OnBoth reference text p a = (p .0 + a .front ≤ length reference) × (a .own .at + a .own .len ≤ length text)
 
 -- What it spells, of an entry with so many ALTs.
 abbrev pub formSpelled : List ℕ → List ℕ → ℕ → NormalEntry → Form
@@ -99,6 +100,6 @@ formSpelled reference text alts n =
       ref = basesOf (bytesOf reference (part (n .start .0) (n .span)));
       alts =
           pick (eqb alts 2)
-          (basesOf (bytesSpelled reference text (n .start .0) (n .first)) ∷ basesOf (bytesSpelled reference text (n .start .0) (n .second)) ∷ [])
-          (basesOf (bytesSpelled reference text (n .start .0) (n .first)) ∷ []);
+          (basesOf (bytesSpelled reference text (n .start) (n .first)) ∷ basesOf (bytesSpelled reference text (n .start) (n .second)) ∷ [])
+          (basesOf (bytesSpelled reference text (n .start) (n .first)) ∷ []);
     }

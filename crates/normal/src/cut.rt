@@ -7,6 +7,7 @@ ghost use Rattle.bases.specs.Letter.{basesOf};
 ghost use Rattle.normal.specs.Cut.{run, backAt, backAlike?, frontAlike?};
 ghost use Rattle.normal.specs.Spelled.{three, cutsOf};
 use bases::letter::letter;
+use bases::place::Place;
 
 // What is cut off: the shortest length of the alleles, how many bases off every end, and how many off every front.
 pub struct Cuts {
@@ -16,22 +17,22 @@ pub struct Cuts {
 }
 
 // The base k before the last of an allele that stands behind the first `start` bases of the reference.
-fn back_at(reference: &[u8], start: usize, allele: &[u8], k: usize) -> u8
-    requires { ⌜ (start ≤ length (now reference)) × (k < start + length (now allele)) ⌝ }
-    ensures { λ r. ⌜ r ≡ backAt (basesOf (now (reference .entry))) start k (basesOf (now (allele .entry))) ⌝ }
+fn back_at(reference: &[u8], start: Place, allele: &[u8], k: usize) -> u8
+    requires { ⌜ (start .0 ≤ length (now reference)) × (k < start .0 + length (now allele)) ⌝ }
+    ensures { λ r. ⌜ r ≡ backAt (basesOf (now (reference .entry))) (start .0) k (basesOf (now (allele .entry))) ⌝ }
 {
     let len = allele.len();
     if k < len {
         letter(allele[len - k - 1])
     } else {
-        letter(reference[start - (k - len) - 1])
+        letter(reference[start.0 - (k - len) - 1])
     }
 }
 
 // How many last bases all alleles have in common, at most `most`, with the first `start` bases of the reference before each.
-fn cut_back(reference: &[u8], start: usize, a: &[u8], b: &[u8], c: &[u8], most: usize) -> usize
-    requires { ⌜ (start ≤ length (now reference)) × (most < start + length (now a)) × (most < start + length (now b)) × (most < start + length (now c)) ⌝ }
-    ensures { λ r. ⌜ r ≡ run (backAlike? (basesOf (now (reference .entry))) (three start (basesOf (now (a .entry))) (basesOf (now (b .entry))) (basesOf (now (c .entry))))) most ⌝ }
+fn cut_back(reference: &[u8], start: Place, a: &[u8], b: &[u8], c: &[u8], most: usize) -> usize
+    requires { ⌜ (start .0 ≤ length (now reference)) × (most < start .0 + length (now a)) × (most < start .0 + length (now b)) × (most < start .0 + length (now c)) ⌝ }
+    ensures { λ r. ⌜ r ≡ run (backAlike? (basesOf (now (reference .entry))) (three (start .0) (basesOf (now (a .entry))) (basesOf (now (b .entry))) (basesOf (now (c .entry))))) most ⌝ }
 {
     let mut q: usize = 0;
     while q < most {
@@ -74,12 +75,12 @@ fn shorter(a: usize, b: usize) -> usize
 }
 
 // What is cut off the alleles a (REF, at `start` on the reference), b and c, none of them empty.
-pub fn cuts_of(reference: &[u8], start: usize, a: &[u8], b: &[u8], c: &[u8]) -> Cuts
-    requires { ⌜ (start + length (now a) ≤ length (now reference)) × (1 ≤ length (now a)) × (1 ≤ length (now b)) × (1 ≤ length (now c)) ⌝ }
-    ensures { λ r. ⌜ r ≡ cutsOf (basesOf (now (reference .entry))) (three start (basesOf (now (a .entry))) (basesOf (now (b .entry))) (basesOf (now (c .entry)))) ⌝ }
+pub fn cuts_of(reference: &[u8], start: Place, a: &[u8], b: &[u8], c: &[u8]) -> Cuts
+    requires { ⌜ (start .0 + length (now a) ≤ length (now reference)) × (1 ≤ length (now a)) × (1 ≤ length (now b)) × (1 ≤ length (now c)) ⌝ }
+    ensures { λ r. ⌜ r ≡ cutsOf (basesOf (now (reference .entry))) (three (start .0) (basesOf (now (a .entry))) (basesOf (now (b .entry))) (basesOf (now (c .entry)))) ⌝ }
 {
     let shortest = shorter(b.len(), shorter(c.len(), a.len()));
-    let back = cut_back(reference, start, a, b, c, start + shortest - 1);
+    let back = cut_back(reference, start, a, b, c, start.0 + shortest - 1);
     let front = if back < shortest {
         cut_front(a, b, c, shortest - back - 1)
     } else {

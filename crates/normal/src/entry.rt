@@ -83,13 +83,13 @@ fn last_alt(entry: Entry) -> Part
 }
 
 // What is cut off the alleles of an entry that starts at `start`.
-fn entry_cuts(reference: &[u8], text: &[u8], entry: Entry, start: usize) -> Cuts
+fn entry_cuts(reference: &[u8], text: &[u8], entry: Entry, start: Place) -> Cuts
     requires { ⌜ Stands (now reference) (now text) entry × (start ≡ startOf entry) ⌝ }
     ensures { λ r. ⌜ r ≡ cutsOf (basesOf (now (reference .entry))) (formOf (now (reference .entry)) (now (text .entry)) entry) ⌝ }
 {
     let ref_part = entry.reference;
     let len = ref_part.len;
-    let bases = bytes_of(reference, Part { at: start, len });
+    let bases = bytes_of(reference, Part { at: start.0, len });
     let first = bytes_of(text, entry.first);
     let last = bytes_of(text, last_alt(entry));
     cuts_of(reference, start, bases, first, last)
@@ -101,14 +101,13 @@ pub fn normal_entry(reference: &[u8], text: &[u8], entry: Entry) -> NormalEntry
     ensures { λ r. ⌜ r ≡ normalEntry (now (reference .entry)) (now (text .entry)) entry ⌝ }
 {
     let pos = entry.pos;
-    let place = place_of(pos);
-    let start = place.0;
+    let start = place_of(pos);
     let cuts = entry_cuts(reference, text, entry, start);
-    let new_start = start + cuts.front - taken_in(cuts);
+    let new_start = start.0 + cuts.front - taken_in(cuts);
     let ref_part = entry.reference;
     NormalEntry {
         start: Place(new_start),
-        span: start + ref_part.len - cuts.back - new_start,
+        span: start.0 + ref_part.len - cuts.back - new_start,
         first: spelled_part(cuts, entry.first),
         second: spelled_part(cuts, last_alt(entry)),
     }

@@ -6,6 +6,7 @@ ghost use lib.ListN.{length};
 ghost use lib.Dec.{T};
 ghost use Rattle.vcf.specs.Field.{tenFields?};
 ghost use Rattle.vcf.specs.Pos.{largestPos};
+ghost use Rattle.bases.specs.Place.{posOf};
 ghost use Rattle.bases.specs.Put.{put};
 ghost use Rattle.normal.specs.Put.{frontWith, backWith};
 ghost use Rattle.normal.specs.Spelled.{bytesSpelled, OnBoth};
@@ -13,6 +14,9 @@ ghost use Rattle.normal.specs.Written.{altsSpelled};
 use crate::entry::NormalEntry;
 use crate::entry::Spelled;
 use crate::put::put_decimal;
+use bases::place::Place;
+use bases::place::Pos;
+use bases::place::pos_of;
 use bases::put::put_byte;
 use bases::put::put_bytes;
 use vcf::bytes::COMMA;
@@ -25,7 +29,7 @@ use vcf::field::fields_of;
 fn put_spelled(
     reference: &[u8],
     line: &[u8],
-    start: usize,
+    start: Place,
     allele: Spelled,
     out: &mut [u8],
     at: usize,
@@ -33,8 +37,9 @@ fn put_spelled(
     requires { ⌜ OnBoth (now reference) (now line) start allele × (at + length (bytesSpelled (now reference) (now line) start allele) ≤ length (now out)) ⌝ }
     ensures { λ r. ⌜ (r ≡ at + length (bytesSpelled (now (reference .entry)) (now (line .entry)) start allele)) × (now (out .exit) ≡ put (now (out .entry)) at (bytesSpelled (now (reference .entry)) (now (line .entry)) start allele)) ⌝ }
 {
-    let end = start + allele.front;
-    let next = put_bytes(&reference[start..end], out, at);
+    let begin = start.0;
+    let end = begin + allele.front;
+    let next = put_bytes(&reference[begin..end], out, at);
     let own = allele.own;
     let from = own.at;
     let to = from + own.len;
@@ -50,11 +55,10 @@ pub fn put_alts(
     out: &mut [u8],
     at: usize,
 ) -> usize
-    requires { ⌜ OnBoth (now reference) (now line) (normal .start .0) (normal .first) × OnBoth (now reference) (now line) (normal .start .0) (normal .second) × (at + length (altsSpelled (now reference) (now line) alts normal) ≤ length (now out)) ⌝ }
+    requires { ⌜ OnBoth (now reference) (now line) (normal .start) (normal .first) × OnBoth (now reference) (now line) (normal .start) (normal .second) × (at + length (altsSpelled (now reference) (now line) alts normal) ≤ length (now out)) ⌝ }
     ensures { λ r. ⌜ (r ≡ at + length (altsSpelled (now (reference .entry)) (now (line .entry)) alts normal)) × (now (out .exit) ≡ put (now (out .entry)) at (altsSpelled (now (reference .entry)) (now (line .entry)) alts normal)) ⌝ }
 {
-    let place = normal.start;
-    let start = place.0;
+    let start = normal.start;
     if alts != 2 {
         return put_spelled(reference, line, start, normal.first, out, at);
     }
@@ -64,8 +68,8 @@ pub fn put_alts(
 }
 
 // Writes a line of ten fields up to its REF, with another POS.
-pub fn put_front(line: &[u8], pos: usize, out: &mut [u8], at: usize) -> usize
-    requires { ⌜ T (tenFields? (now line)) × (pos ≤ largestPos) × (at + length (frontWith (now line) pos) ≤ length (now out)) ⌝ }
+pub fn put_front(line: &[u8], pos: Pos, out: &mut [u8], at: usize) -> usize
+    requires { ⌜ T (tenFields? (now line)) × (pos .0 ≤ largestPos) × (at + length (frontWith (now line) pos) ≤ length (now out)) ⌝ }
     ensures { λ r. ⌜ (r ≡ at + length (frontWith (now (line .entry)) pos)) × (now (out .exit) ≡ put (now (out .entry)) at (frontWith (now (line .entry)) pos)) ⌝ }
 {
     let fields = fields_of(line);
@@ -73,7 +77,7 @@ pub fn put_front(line: &[u8], pos: usize, out: &mut [u8], at: usize) -> usize
     let ref_at = fields.reference;
     let end = find(line, pos_at, TAB);
     let a = put_bytes(&line[..pos_at], out, at);
-    let b = put_decimal(pos, out, a);
+    let b = put_decimal(pos.0, out, a);
     put_bytes(&line[end..ref_at], out, b)
 }
 
@@ -86,7 +90,7 @@ pub fn put_back(
     out: &mut [u8],
     at: usize,
 ) -> usize
-    requires { ⌜ T (tenFields? (now line)) × (normal .start .0 + normal .span ≤ length (now reference)) × OnBoth (now reference) (now line) (normal .start .0) (normal .first) × OnBoth (now reference) (now line) (normal .start .0) (normal .second) × (at + length (backWith (now reference) (now line) alts normal) ≤ length (now out)) ⌝ }
+    requires { ⌜ T (tenFields? (now line)) × (normal .start .0 + normal .span ≤ length (now reference)) × OnBoth (now reference) (now line) (normal .start) (normal .first) × OnBoth (now reference) (now line) (normal .start) (normal .second) × (at + length (backWith (now reference) (now line) alts normal) ≤ length (now out)) ⌝ }
     ensures { λ r. ⌜ (r ≡ at + length (backWith (now (reference .entry)) (now (line .entry)) alts normal)) × (now (out .exit) ≡ put (now (out .entry)) at (backWith (now (reference .entry)) (now (line .entry)) alts normal)) ⌝ }
 {
     let fields = fields_of(line);
@@ -111,10 +115,10 @@ pub fn put_line(
     out: &mut [u8],
     at: usize,
 ) -> usize
-    requires { ⌜ T (tenFields? (now line)) × (normal .start .0 + 1 ≤ largestPos) × (normal .start .0 + normal .span ≤ length (now reference)) × OnBoth (now reference) (now line) (normal .start .0) (normal .first) × OnBoth (now reference) (now line) (normal .start .0) (normal .second) × (at + length (frontWith (now line) (normal .start .0 + 1) ++ backWith (now reference) (now line) alts normal) ≤ length (now out)) ⌝ }
-    ensures { λ r. ⌜ (r ≡ at + length (frontWith (now (line .entry)) (normal .start .0 + 1) ++ backWith (now (reference .entry)) (now (line .entry)) alts normal)) × (now (out .exit) ≡ put (now (out .entry)) at (frontWith (now (line .entry)) (normal .start .0 + 1) ++ backWith (now (reference .entry)) (now (line .entry)) alts normal)) ⌝ }
+    requires { ⌜ T (tenFields? (now line)) × (posOf (normal .start) .0 ≤ largestPos) × (normal .start .0 + normal .span ≤ length (now reference)) × OnBoth (now reference) (now line) (normal .start) (normal .first) × OnBoth (now reference) (now line) (normal .start) (normal .second) × (at + length (frontWith (now line) (posOf (normal .start)) ++ backWith (now reference) (now line) alts normal) ≤ length (now out)) ⌝ }
+    ensures { λ r. ⌜ (r ≡ at + length (frontWith (now (line .entry)) (posOf (normal .start)) ++ backWith (now (reference .entry)) (now (line .entry)) alts normal)) × (now (out .exit) ≡ put (now (out .entry)) at (frontWith (now (line .entry)) (posOf (normal .start)) ++ backWith (now (reference .entry)) (now (line .entry)) alts normal)) ⌝ }
 {
-    let place = normal.start;
-    let next = put_front(line, place.0 + 1, out, at);
+    let start = normal.start;
+    let next = put_front(line, pos_of(start), out, at);
     put_back(reference, line, alts, normal, out, next)
 }

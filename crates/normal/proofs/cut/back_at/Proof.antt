@@ -35,12 +35,12 @@ letter-requires-2 c κs = search needs
 returns : tie.Need-returns
 returns c =
     let x = c .before .before .before .before .before .args in
-    own-read (x .reference .now) (x .start) (c .before .before .before .before .before .pre .0) (x .allele .now) (x .k) (omega arith) (c .letter .ensures)
+    own-read (x .reference .now) (x .start .0) (c .before .before .before .before .before .pre .0) (x .allele .now) (x .k) (omega arith) (c .letter .ensures)
 
 returns-2 : tie.Need-returns-2
 returns-2 c =
-    let x = c .before .before .before .before .before .args in
-    front-read (x .reference .now) (x .start) (c .before .before .before .before .before .pre .0) (x .allele .now) (x .k) (omega arith) (omega arith) (c .letter2 .ensures)
+    let x = c .before .before .before .before .before .before .args in
+    front-read (x .reference .now) (x .start .0) (c .before .before .before .before .before .before .pre .0) (x .allele .now) (x .k) (omega arith) (omega arith) (c .letter2 .ensures)
 
 pub back-at-spec : {M : Type 1} → statement M
 back-at-spec =

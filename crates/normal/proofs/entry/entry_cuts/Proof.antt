@@ -2,6 +2,7 @@
 use mathlib.Core.Path.{_≡_, ap, _∙_}
 use native.Mathlib.Omega.{arith}
 use lib.ListN.{length}
+use Rattle.bases.specs.declared.place.Place.{Place}
 use Rattle.vcf.specs.declared.entry.Part.{Part}
 use Rattle.vcf.specs.Entry.{part}
 use Rattle.normal.specs.Spelled.{lastAlt}
@@ -16,7 +17,10 @@ use Rattle.normal.proofs.entry.bytes_of.Reads as bytes-of-reads
 use Rattle.normal.proofs.entry.last_alt.Reads as last-alt-reads
 
 bytes-of-requires : tie.Need-bytes-of-requires
-bytes-of-requires c κs = search needs
+bytes-of-requires c κs =
+    let s = ap (λ (p : Place). p .0) (c .before .before .before .pre .1) in
+    let on = c .before .before .before .pre .0 .on in
+    (omega arith, omega arith)
 
 bytes-of-requires-2 : tie.Need-bytes-of-requires-2
 bytes-of-requires-2 c κs = search needs
@@ -35,9 +39,9 @@ cuts-of-requires c κs =
     let x = c .before .before .before .before .before .before .before .args in
     let st = c .before .before .before .before .before .before .before .pre .0 in
     let e = x .entry in
-    let s = c .before .before .before .before .before .before .before .pre .1 in
+    let s = ap (λ (p : Place). p .0) (c .before .before .before .before .before .before .before .pre .1) in
     let l : c .before .last-alt .result ≡ lastAlt e = c .before .last-alt .ensures in
-    let a = ap length (c .before .before .before .bytes-of .ensures) ∙ part-length (x .reference .now) (part (x .start) (e .reference .len)) (omega arith, omega arith) in
+    let a = ap length (c .before .before .before .bytes-of .ensures) ∙ part-length (x .reference .now) (part (x .start .0) (e .reference .len)) (omega arith, omega arith) in
     let b = ap length (c .before .before .bytes-of2 .ensures) ∙ part-length (x .text .now) (e .first) (st .first) in
     let d = ap length (c .bytes-of3 .ensures) ∙ part-length (x .text .now) (c .before .last-alt .result) (rw l (st .second)) ∙ ap (λ (p : Part). p .len) l in
     (omega arith, omega arith, omega arith, omega arith)

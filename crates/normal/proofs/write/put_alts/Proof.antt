@@ -15,8 +15,8 @@ put-spelled-requires : tie.Need-put-spelled-requires
 put-spelled-requires c κs =
     let a = c .before .before .before .before .before .before .args in
     let h = c .before .before .before .before .before .before .pre in
-    let x = bytesSpelled (a .reference .now) (a .line .now) (a .normal .start .0) (a .normal .first) in
-    let y = bytesSpelled (a .reference .now) (a .line .now) (a .normal .start .0) (a .normal .second) in
+    let x = bytesSpelled (a .reference .now) (a .line .now) (a .normal .start) (a .normal .first) in
+    let y = bytesSpelled (a .reference .now) (a .line .now) (a .normal .start) (a .normal .second) in
     let t = ne-eqb (a .alts) 2 (λ e. omega arith) in
     let room = rw t at (h .2) in
     (h .0, room)
@@ -28,8 +28,8 @@ returns : tie.Need-returns
 returns c =
     let a = c .before .before .before .before .before .before .before .before .before .args in
     let h = c .before .before .before .before .before .before .before .before .before .pre in
-    let x = bytesSpelled (a .reference .now) (a .line .now) (a .normal .start .0) (a .normal .first) in
-    let y = bytesSpelled (a .reference .now) (a .line .now) (a .normal .start .0) (a .normal .second) in
+    let x = bytesSpelled (a .reference .now) (a .line .now) (a .normal .start) (a .normal .first) in
+    let y = bytesSpelled (a .reference .now) (a .line .now) (a .normal .start) (a .normal .second) in
     let t = ne-eqb (a .alts) 2 (λ e. omega arith) in
     let room = rw t at (h .2) in
     let p = c .before .before .put-spelled in
@@ -39,8 +39,8 @@ put-spelled-requires-2 : tie.Need-put-spelled-requires-2
 put-spelled-requires-2 c κs =
     let a = c .before .before .before .before .before .before .args in
     let h = c .before .before .before .before .before .before .pre in
-    let x = bytesSpelled (a .reference .now) (a .line .now) (a .normal .start .0) (a .normal .first) in
-    let y = bytesSpelled (a .reference .now) (a .line .now) (a .normal .start .0) (a .normal .second) in
+    let x = bytesSpelled (a .reference .now) (a .line .now) (a .normal .start) (a .normal .first) in
+    let y = bytesSpelled (a .reference .now) (a .line .now) (a .normal .start) (a .normal .second) in
     let t = eq-eqb (a .alts) 2 (omega arith) in
     let room = rw t at (h .2) in
     let n = length-append x (44 ∷ y) in
@@ -50,8 +50,8 @@ put-byte-requires : tie.Need-put-byte-requires
 put-byte-requires c κs =
     let a = c .before .before .before .before .before .before .before .before .before .before .args in
     let h = c .before .before .before .before .before .before .before .before .before .before .pre in
-    let x = bytesSpelled (a .reference .now) (a .line .now) (a .normal .start .0) (a .normal .first) in
-    let y = bytesSpelled (a .reference .now) (a .line .now) (a .normal .start .0) (a .normal .second) in
+    let x = bytesSpelled (a .reference .now) (a .line .now) (a .normal .start) (a .normal .first) in
+    let y = bytesSpelled (a .reference .now) (a .line .now) (a .normal .start) (a .normal .second) in
     let t = eq-eqb (a .alts) 2 (omega arith) in
     let room = rw t at (h .2) in
     let n = length-append x (44 ∷ y) in
@@ -64,8 +64,8 @@ put-spelled-requires-3 : tie.Need-put-spelled-requires-3
 put-spelled-requires-3 c κs =
     let a = c .before .before .before .before .before .before .before .before .before .before .before .before .before .before .args in
     let h = c .before .before .before .before .before .before .before .before .before .before .before .before .before .before .pre in
-    let x = bytesSpelled (a .reference .now) (a .line .now) (a .normal .start .0) (a .normal .first) in
-    let y = bytesSpelled (a .reference .now) (a .line .now) (a .normal .start .0) (a .normal .second) in
+    let x = bytesSpelled (a .reference .now) (a .line .now) (a .normal .start) (a .normal .first) in
+    let y = bytesSpelled (a .reference .now) (a .line .now) (a .normal .start) (a .normal .second) in
     let t = eq-eqb (a .alts) 2 (omega arith) in
     let room = rw t at (h .2) in
     let n = length-append x (44 ∷ y) in
@@ -83,8 +83,8 @@ returns-2 : tie.Need-returns-2
 returns-2 c =
     let a = c .before .before .before .before .before .before .before .before .before .before .before .before .before .before .before .before .before .args in
     let h = c .before .before .before .before .before .before .before .before .before .before .before .before .before .before .before .before .before .pre in
-    let x = bytesSpelled (a .reference .now) (a .line .now) (a .normal .start .0) (a .normal .first) in
-    let y = bytesSpelled (a .reference .now) (a .line .now) (a .normal .start .0) (a .normal .second) in
+    let x = bytesSpelled (a .reference .now) (a .line .now) (a .normal .start) (a .normal .first) in
+    let y = bytesSpelled (a .reference .now) (a .line .now) (a .normal .start) (a .normal .second) in
     let t = eq-eqb (a .alts) 2 (omega arith) in
     let room = rw t at (h .2) in
     let n = length-append x (44 ∷ y) in

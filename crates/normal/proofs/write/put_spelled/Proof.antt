@@ -24,7 +24,7 @@ put-bytes-requires : tie.Need-put-bytes-requires
 put-bytes-requires c κs =
     let a = c .before .before .before .before .before .before .args in
     let h = c .before .before .before .before .before .before .pre in
-    let s = a .start in
+    let s = a .start .0 in
     let x = a .allele .front in
     let o = a .allele .own in
     let e : s + x - s ≡ x = omega arith in
@@ -50,7 +50,7 @@ put-bytes-requires-2 : tie.Need-put-bytes-requires-2
 put-bytes-requires-2 c κs =
     let a = c .before .before .before .before .before .before .before .before .before .before .before .before .before .args in
     let h = c .before .before .before .before .before .before .before .before .before .before .before .before .before .pre in
-    let s = a .start in
+    let s = a .start .0 in
     let x = a .allele .front in
     let o = a .allele .own in
     let e : s + x - s ≡ x = omega arith in
@@ -70,7 +70,7 @@ returns : tie.Need-returns
 returns c =
     let a = c .before .before .before .before .before .before .before .before .before .before .before .before .before .before .before .before .args in
     let h = c .before .before .before .before .before .before .before .before .before .before .before .before .before .before .before .before .pre in
-    let s = a .start in
+    let s = a .start .0 in
     let x = a .allele .front in
     let o = a .allele .own in
     let e : s + x - s ≡ x = omega arith in
