@@ -12,6 +12,7 @@ use native.Mathlib.Omega.{arith}
 use lib.Dec.{T, eqb, eqb→eq}
 use lib.ListN.{length, getD}
 use borrow.Author.Tests.{eq-eqb}
+use Rattle.bases.specs.declared.place.Place.{Place}
 use Rattle.bases.specs.Letter.{letterOf, basesOf}
 use Rattle.bases.proofs.LetterLaws.{bases-length, bases-at}
 use Rattle.bases.proofs.TestLaws.{both, of-true}
@@ -41,8 +42,8 @@ module _ (h : List ℕ → ℕ) (a b c : List ℕ) {x : ℕ} (ref : x ≡ h a) w
   unfolding all?
   alike-second second t = second ∙ eqb→eq (h c) (h a) (both (eqb (h c) (h a)) _ .0 (both (eqb (h b) (h a)) _ .0 t .1) .0) ∙ sym ref
 
-pub cuts-are : (r : List ℕ) (s : ℕ) (a b c : List ℕ) {l m q t : ℕ} → l ≡ min (length c) (length a) → m ≡ min (length b) l
-    → q ≡ run (backAlike? r (three s (basesOf a) (basesOf b) (basesOf c))) (s + m - 1)
+pub cuts-are : (r : List ℕ) (s : Place) (a b c : List ℕ) {l m q t : ℕ} → l ≡ min (length c) (length a) → m ≡ min (length b) l
+    → q ≡ run (backAlike? r (three s (basesOf a) (basesOf b) (basesOf c))) (s .0 + m - 1)
     → t ≡ run (frontAlike? (three s (basesOf a) (basesOf b) (basesOf c))) (m - q - 1)
     → _≡_ {A = Cuts} record { shortest = m; back = q; front = t } (cutsOf r (three s (basesOf a) (basesOf b) (basesOf c)))
 cuts-are r s a b c {l} {m} {q} {t} el em eq et =

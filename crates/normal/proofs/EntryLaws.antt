@@ -50,22 +50,22 @@ unfolding shortest
 twin-shortest a b = omega arith
 
 -- An entry with one ALT.
-abbrev pub two : ℕ → List ℕ → List ℕ → Form
+abbrev pub two : Place → List ℕ → List ℕ → Form
 two s a b = record { start = s; ref = a; alts = b ∷ [] }
 
-pub twin-cuts : (r : List ℕ) (s : ℕ) (a b : List ℕ) → cutsOf r (three s a b b) ≡ cutsOf r (two s a b)
+pub twin-cuts : (r : List ℕ) (s : Place) (a b : List ℕ) → cutsOf r (three s a b b) ≡ cutsOf r (two s a b)
 twin-cuts r s a b =
     let m = twin-shortest a b in
     let q : cutOf r (three s a b b) ≡ cutOf r (two s a b) =
-    run-same (backAlike? r (three s a b b)) (backAlike? r (two s a b)) (s + shortest a (b ∷ b ∷ []) - 1) (λ k. twin-all (λ x. eqb (backAt r s k x) (backAt r s k a)) b)
-    ∙ ap (λ (n : ℕ). run (backAlike? r (two s a b)) (s + n - 1)) m in
+    run-same (backAlike? r (three s a b b)) (backAlike? r (two s a b)) (s .0 + shortest a (b ∷ b ∷ []) - 1) (λ k. twin-all (λ x. eqb (backAt r (s .0) k x) (backAt r (s .0) k a)) b)
+    ∙ ap (λ (n : ℕ). run (backAlike? r (two s a b)) (s .0 + n - 1)) m in
     let t : trimOf (three s a b b) (cutOf r (three s a b b)) ≡ trimOf (two s a b) (cutOf r (two s a b)) =
     run-same (frontAlike? (three s a b b)) (frontAlike? (two s a b)) (shortest a (b ∷ b ∷ []) - (cutOf r (three s a b b) + 1)) (λ k. twin-all (λ x. eqb (getD x k 0) (getD a k 0)) b)
     ∙ ap (λ (n : ℕ). run (frontAlike? (two s a b)) (n - (cutOf r (three s a b b) + 1))) m
     ∙ ap (λ (n : ℕ). run (frontAlike? (two s a b)) (shortest a (b ∷ []) - (n + 1))) q in
     cc
 
-last-three : (r : List ℕ) (s : ℕ) (a text : List ℕ) (p q : Part) (t : Bool) → cutsOf r (three s a (basesOf (bytesOf text p)) (basesOf (bytesOf text (pick t q p)))) ≡ cutsOf r (record { start = s; ref = a; alts = pick t (basesOf (bytesOf text p) ∷ basesOf (bytesOf text q) ∷ []) (basesOf (bytesOf text p) ∷ []) })
+last-three : (r : List ℕ) (s : Place) (a text : List ℕ) (p q : Part) (t : Bool) → cutsOf r (three s a (basesOf (bytesOf text p)) (basesOf (bytesOf text (pick t q p)))) ≡ cutsOf r (record { start = s; ref = a; alts = pick t (basesOf (bytesOf text p) ∷ basesOf (bytesOf text q) ∷ []) (basesOf (bytesOf text p) ∷ []) })
 last-three r s a text p q true = refl
 last-three r s a text p q false = twin-cuts r s a (basesOf (bytesOf text p))
 
@@ -73,13 +73,13 @@ last-three r s a text p q false = twin-cuts r s a (basesOf (bytesOf text p))
 abbrev pub refBytes : List ℕ → Entry → List ℕ
 refBytes reference e = bytesOf reference (part (startOf e .0) (e .reference .len))
 
-pub entry-three : (reference text : List ℕ) (e : Entry) → cutsOf (basesOf reference) (three (startOf e .0) (basesOf (refBytes reference e)) (basesOf (bytesOf text (e .first))) (basesOf (bytesOf text (lastAlt e)))) ≡ cutsOf (basesOf reference) (formOf reference text e)
+pub entry-three : (reference text : List ℕ) (e : Entry) → cutsOf (basesOf reference) (three (startOf e) (basesOf (refBytes reference e)) (basesOf (bytesOf text (e .first))) (basesOf (bytesOf text (lastAlt e)))) ≡ cutsOf (basesOf reference) (formOf reference text e)
 entry-three reference text e =
-    last-three (basesOf reference) (startOf e .0) (basesOf (refBytes reference e)) text (e .first) (e .second) (eqb (e .alts) 2)
+    last-three (basesOf reference) (startOf e) (basesOf (refBytes reference e)) text (e .first) (e .second) (eqb (e .alts) 2)
 
 pub entry-cuts-are : (reference text : List ℕ) (e : Entry) {s : Place} {a b c : List ℕ} {l : Part} {k : Cuts} → s ≡ startOf e
     → a ≡ bytesOf reference (part (s .0) (e .reference .len)) → b ≡ bytesOf text (e .first) → l ≡ lastAlt e → c ≡ bytesOf text l
-    → k ≡ cutsOf (basesOf reference) (three (s .0) (basesOf a) (basesOf b) (basesOf c)) → k ≡ cutsOf (basesOf reference) (formOf reference text e)
+    → k ≡ cutsOf (basesOf reference) (three s (basesOf a) (basesOf b) (basesOf c)) → k ≡ cutsOf (basesOf reference) (formOf reference text e)
 entry-cuts-are reference text e es ea eb el ec ek = let t = entry-three reference text e in cc
 
 -- How much is cut off an entry at most.

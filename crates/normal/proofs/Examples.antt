@@ -4,9 +4,10 @@
 use mathlib.Core.List.{List, [], _∷_, _++_, List·Memᴰ·not-nil, List·Memᴰ·cases-cons}
 use mathlib.Core.Logic.{⊎-elim}
 use mathlib.Core.Path.{_≡_, refl, subst}
-use Prim.Native.Nat.{ℕ, _-_, _≤_}
+use Prim.Native.Nat.{ℕ, _≤_}
 use lib.Dec.{lit≤}
 use lib.ListN.{length}
+use Rattle.bases.specs.Place.{placeOf}
 use Rattle.bases.specs.Letter.{letterOf, among?}
 use Rattle.bases.specs.Same.{agree?}
 use Rattle.vcf.specs.Bytes.{TAB, COMMA, versionLine, columnNames, until}
@@ -37,7 +38,7 @@ T = 84
 
 -- An entry with one ALT.
 abbrev pub entry : ℕ → List ℕ → List ℕ → Form
-entry pos ref alt = record { start = pos - 1; ref = ref; alts = alt ∷ [] }
+entry pos ref alt = record { start = placeOf (record { 0 = pos }); ref = ref; alts = alt ∷ [] }
 
 -- What the closed form computes is the normal form.
 computed : (r : List ℕ) (pos : ℕ) (ref alt : List ℕ) (g : Form) → OnReference r (entry pos ref alt) → 1 ≤ length ref → 1 ≤ length alt → normalOf r (entry pos ref alt) ≡ g → NormalForm r (entry pos ref alt) g

@@ -22,7 +22,7 @@ module _ (r : List ℕ) (f g : Form) (onf : OnReference r f) (ong : OnReference 
         let p = partner b m in
         last-of r g f ong onf b (p .0) (sym (p .2)) h (n .some b m)
 
-    begins-with : g .start < f .start → Each (λ b. first b ≡ getD r (g .start) 0) (alleles g)
+    begins-with : g .start .0 < f .start .0 → Each (λ b. first b ≡ getD r (g .start .0) 0) (alleles g)
     begins-with h b m =
         let p = partner b m in
         first-of r g f ong onf b (p .0) (sym (p .2)) h (n .some b m)
@@ -41,13 +41,13 @@ module _ (r : List ℕ) (f g : Form) (onf : OnReference r f) (ong : OnReference 
             let one = e .1 .2 in
             omega (arith, apart r f g onf ong (p .0) b (p .2), some (p .0) (p .1))
 
-    pub not-longer : f .start + spanEnd g ≤ g .start + spanEnd f
+    pub not-longer : f .start .0 + spanEnd g ≤ g .start .0 + spanEnd f
     not-longer = let no = longer in omega arith
       where
-        alike : g .start < f .start → AllBeginAlike g
+        alike : g .start .0 < f .start .0 → AllBeginAlike g
         alike h a m = begins-with h a (List·Memᴰ·tail m) ∙ sym (begins-with h (g .ref) (List·Memᴰ·head refl))
 
-        longer : g .start + spanEnd f < f .start + spanEnd g → ⊥
+        longer : g .start .0 + spanEnd f < f .start .0 + spanEnd g → ⊥
         longer h = n .begins (alike (omega (arith, end-not-right))) two
           where
             two : Each (λ b. 2 ≤ length b) (alleles g)

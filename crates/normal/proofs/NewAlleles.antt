@@ -6,7 +6,7 @@
 use mathlib.Core.Bool.{Bool, true, false, _&&_}
 use mathlib.Core.List.{List}
 use mathlib.Core.Path.{_≡_, refl, sym, ap, _∙_}
-use Prim.Native.Nat.{ℕ, _+_, _-_, _≤_}
+use Prim.Native.Nat.{ℕ, _+_, _≤_}
 use native.Mathlib.Omega.{arith}
 use borrow.Author.Tests.{le-leb}
 use lib.Dec.{T, eqb, leb}
@@ -71,7 +71,7 @@ module _ (reference l : List ℕ) (good : T (allLetters? reference)) (one : With
   abbrev e : Entry
   e = entryOf l 0
 
-  pub line-shrinks : Shrinks (eqb (altCount (field 4 l)) 2) (placeOf (posOn l) .0) (basesOf (refBytes reference e)) (basesOf (bytesOf l (e .first))) (basesOf (bytesOf l (e .second))) (newOn reference l .start .0) (basesOf (newRef reference l)) (basesOf (newFirst reference l)) (basesOf (newSecond reference l))
+  pub line-shrinks : Shrinks (eqb (altCount (field 4 l)) 2) (placeOf (posOn l)) (basesOf (refBytes reference e)) (basesOf (bytesOf l (e .first))) (basesOf (bytesOf l (e .second))) (newOn reference l .start) (basesOf (newRef reference l)) (basesOf (newFirst reference l)) (basesOf (newSecond reference l))
   line-shrinks =
       let st = line-stands reference l good one line in
       shrinks (eqb (altCount (field 4 l)) 2) (basesOf reference) _ _ _ _ _ _ _ _ (form-on reference l e st) (form-some reference l e st) (line-normal reference l good one line)

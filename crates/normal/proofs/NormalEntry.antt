@@ -11,6 +11,7 @@ use Prim.Native.Nat.{ℕ, _+_, _-_, _≤_}
 use native.Mathlib.Omega.{arith}
 use lib.Dec.{eqb}
 use lib.ListN.{length, take, drop}
+use Rattle.bases.specs.declared.place.Place.{Place}
 use Rattle.bases.specs.Letter.{basesOf}
 use Rattle.bases.proofs.LetterLaws.{bases-length, bases-part}
 use Rattle.bases.specs.Pick.{pick}
@@ -28,7 +29,7 @@ use Rattle.normal.proofs.EntryLaws.{part-length, refBytes, Bounds, boun
 use Rattle.normal.proofs.SpelledLaws.{numbers, spelled-between}
 use Rattle.normal.proofs.NormalForm.{normal-exists}
 
-same-start : (s : ℕ) {a b : List ℕ} {x y : List (List ℕ)} → a ≡ b → x ≡ y → _≡_ {A = Form} (record { start = s; ref = a; alts = x }) (record { start = s; ref = b; alts = y })
+same-start : (s : Place) {a b : List ℕ} {x y : List (List ℕ)} → a ≡ b → x ≡ y → _≡_ {A = Form} (record { start = s; ref = a; alts = x }) (record { start = s; ref = b; alts = y })
 same-start s h j = cc
 
 module _ (reference text : List ℕ) (e : Entry) (st : Stands reference text e) where
@@ -63,7 +64,7 @@ module _ (reference text : List ℕ) (e : Entry) (st : Stands reference text e) 
   k = cutsOf (basesOf reference) f
 
   abbrev n : ℕ
-  n = newStart f (k .back) (k .front)
+  n = newStart f (k .back) (k .front) .0
 
   kb : Bounds k e
   kb = bounds reference text e st k refl
@@ -91,7 +92,7 @@ module _ (reference text : List ℕ) (e : Entry) (st : Stands reference text e) 
 
   pub normal-entry-form : formSpelled reference text (e .alts) (normalEntry reference text e) ≡ normalOf (basesOf reference) (formOf reference text e)
   unfolding normalEntry normalOf
-  normal-entry-form = same-start n left-of-ref (left-of-alts (eqb (e .alts) 2) (st .second) (kb .second))
+  normal-entry-form = same-start (record { 0 = n }) left-of-ref (left-of-alts (eqb (e .alts) 2) (st .second) (kb .second))
 
   pub normal-entry-is : NormalForm (basesOf reference) (formOf reference text e) (formSpelled reference text (e .alts) (normalEntry reference text e))
   normal-entry-is = rw normal-entry-form (normal-exists (basesOf reference) f form-on form-some)

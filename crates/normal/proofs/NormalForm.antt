@@ -29,19 +29,19 @@ normal-exists r f on some =
     }
 
 form : ℕ → List ℕ → List (List ℕ) → Form
-form s ref alts = record { start = s; ref = ref; alts = alts }
+form s ref alts = record { start = record { 0 = s }; ref = ref; alts = alts }
 
 -- Two entries on the reference with the same span and the same donors are the same.
-same-span : (r : List ℕ) (f g : Form) → OnReference r f → OnReference r g → SameDonors r f g → f .start ≡ g .start → spanEnd f ≡ spanEnd g → f ≡ g
+same-span : (r : List ℕ) (f g : Form) → OnReference r f → OnReference r g → SameDonors r f g → f .start .0 ≡ g .start .0 → spanEnd f ≡ spanEnd g → f ≡ g
 unfolding form
 same-span r f g onf ong same s e =
     let long : length (f .ref) ≡ length (g .ref) = omega arith in
     let ref : f .ref ≡ g .ref = cc (onf .1, ong .1) in
     let donors : map (donor r g) (g .alts) ≡ map (donor r f) (g .alts) =
     ap (λ (z : ℕ). map (λ a. take z r ++ a ++ drop (spanEnd g) r) (g .alts)) (sym s)
-    ∙ ap (λ (z : ℕ). map (λ a. take (f .start) r ++ a ++ drop z r) (g .alts)) (sym e) in
+    ∙ ap (λ (z : ℕ). map (λ a. take (f .start .0) r ++ a ++ drop z r) (g .alts)) (sym e) in
     let alts : f .alts ≡ g .alts = map-inj (donor r f) (donor-inj r f onf) (f .alts) (g .alts) (same ∙ donors) in
-    let k : form (f .start) (f .ref) (f .alts) ≡ form (g .start) (g .ref) (g .alts) = cc in
+    let k : form (f .start .0) (f .ref) (f .alts) ≡ form (g .start .0) (g .ref) (g .alts) = cc in
     k
 
 pub normal-same : (r : List ℕ) (f g : Form) → OnReference r f → OnReference r g → Normal f → Normal g → SameDonors r f g → f ≡ g
@@ -65,7 +65,7 @@ module _ (r : List ℕ) (f g : Form) (on : OnReference r f) (some : NoneEmpty f)
   same-at : (i : ℕ) → i < length (alleles f) → donor r f (getD (alleles f) i []) ≡ donor r g (getD (alleles g) i [])
   same-at i h = map-at (donor r f) (donor r g) (alleles f) (alleles g) (donors-all r f g on (n .on) (n .donors)) i h
 
-  pub normal-reach : (i : ℕ) → i < length (alleles f) → g .start + length (getD (alleles g) i []) ≤ f .start + length (getD (alleles f) i [])
+  pub normal-reach : (i : ℕ) → i < length (alleles f) → g .start .0 + length (getD (alleles g) i []) ≤ f .start .0 + length (getD (alleles f) i [])
   normal-reach i h = omega (arith, normal-end, apart r f g on (n .on) (getD (alleles f) i []) (getD (alleles g) i []) (same-at i h))
 
   pub normal-shorter : (i : ℕ) → i < length (alleles f) → length (getD (alleles g) i []) ≤ length (getD (alleles f) i [])

@@ -8,18 +8,19 @@ use mathlib.Core.Path.{_≡_, refl, sym, ap, _∙_}
 use Prim.Native.Nat.{ℕ, _+_, _≤_}
 use lib.Dec.{T, lit<}
 use lib.ListN.{length}
+use Rattle.bases.specs.declared.place.Place.{Place}
 use Rattle.bases.specs.Pick.{pick}
 use Rattle.normal.specs.Form.{Form, alleles, OnReference, NoneEmpty, donor, NormalForm}
 use Rattle.normal.proofs.DonorLaws.{donors-all, donor-inj}
 use Rattle.normal.proofs.MemberLaws.{map-at}
 use Rattle.normal.proofs.NormalForm.{normal-end, normal-shorter}
 
-abbrev pub formAt : Bool → ℕ → List ℕ → List ℕ → List ℕ → Form
+abbrev pub formAt : Bool → Place → List ℕ → List ℕ → List ℕ → Form
 formAt t s a b c = record { start = s; ref = a; alts = pick t (b ∷ c ∷ []) (b ∷ []) }
 
 -- From the alleles a, b, c at s to x, y, z at p.
-pub record Shrinks (t : Bool) (s : ℕ) (a b c : List ℕ) (p : ℕ) (x y z : List ℕ) : Type 0 where
-  pub end : p + length x ≤ s + length a
+pub record Shrinks (t : Bool) (s : Place) (a b c : List ℕ) (p : Place) (x y z : List ℕ) : Type 0 where
+  pub end : p .0 + length x ≤ s .0 + length a
   pub ref : length x ≤ length a
   pub first : length y ≤ length b
   pub second : T t → length z ≤ length c
@@ -30,7 +31,7 @@ pub record Shrinks (t : Bool) (s : ℕ) (a b c : List ℕ) (p : ℕ) (x y z : Li
   pub second-new : T t → (c ≡ a → ⊥) → z ≡ x → ⊥
   pub two-new : T t → (c ≡ b → ⊥) → z ≡ y → ⊥
 
-pub shrinks : (t : Bool) (r : List ℕ) (s : ℕ) (a b c : List ℕ) (p : ℕ) (x y z : List ℕ) → OnReference r (formAt t s a b c) → NoneEmpty (formAt t s a b c)
+pub shrinks : (t : Bool) (r : List ℕ) (s : Place) (a b c : List ℕ) (p : Place) (x y z : List ℕ) → OnReference r (formAt t s a b c) → NoneEmpty (formAt t s a b c)
     → NormalForm r (formAt t s a b c) (formAt t p x y z) → Shrinks t s a b c p x y z
 shrinks true r s a b c p x y z on some n =
     let f = formAt true s a b c in

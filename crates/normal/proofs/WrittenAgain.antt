@@ -6,11 +6,11 @@
 use mathlib.Core.Bool.{Bool, true, false}
 use mathlib.Core.List.{List, [], _∷_, _++_}
 use mathlib.Core.Path.{_≡_, refl, sym, ap, subst, _∙_}
-use Prim.Native.Nat.{ℕ, _+_, _-_, _≤_}
-use native.Mathlib.Omega.{arith}
+use Prim.Native.Nat.{ℕ, _≤_}
 use lib.Dec.{T, eqb}
 use lib.ListN.{length, take, drop}
-use Rattle.bases.specs.declared.place.Pos.{Pos}
+use Rattle.bases.proofs.PlaceLaws.{place-of-pos}
+use Rattle.bases.specs.declared.place.Place.{Place}
 use Rattle.bases.specs.Place.{placeOf}
 use Rattle.bases.specs.Letter.{isLetter?, allLetters?, letterOf, among?, basesOf}
 use Rattle.bases.specs.Pick.{pick}
@@ -68,7 +68,7 @@ alt-same : (t : Bool) (a b x y : List ℕ) → a ≡ x → (T t → b ≡ y) →
 alt-same true a b x y h k = let j = k tt in cc
 alt-same false a b x y h k = h
 
-pub same-form : {s p : ℕ} {a x : List ℕ} {b y : List (List ℕ)} → s ≡ p → a ≡ x → b ≡ y → _≡_ {A = Form} (record { start = s; ref = a; alts = b }) (record { start = p; ref = x; alts = y })
+pub same-form : {s p : Place} {a x : List ℕ} {b y : List (List ℕ)} → s ≡ p → a ≡ x → b ≡ y → _≡_ {A = Form} (record { start = s; ref = a; alts = b }) (record { start = p; ref = x; alts = y })
 same-form h j k = cc
 
 module _ (reference l : List ℕ) (good : T (allLetters? reference)) (one : Without LF l) (line : RecordLine reference l) where
@@ -106,14 +106,14 @@ module _ (reference l : List ℕ) (good : T (allLetters? reference)) (one : With
     two-written : twoAlts? (field 4 m) ≡ twoAlts? (field 4 l)
     two-written = ap twoAlts? (written-4 reference l good one line) ∙ new-two reference l good one line
 
-    same-start : placeOf (posOn m) .0 ≡ newOn reference l .start .0
-    same-start = omega (arith, ap (λ (p : Pos). p .0) (written-pos reference l good one line fits))
+    same-start : placeOf (posOn m) ≡ newOn reference l .start
+    same-start = ap placeOf (written-pos reference l good one line fits) ∙ place-of-pos (newOn reference l .start)
 
     pub written-form : formOf reference m (entryOf m 0) ≡ formSpelled reference l (altCount (field 4 l)) (newOn reference l)
     written-form =
         let s = newOn reference l .start .0 in
         let ref : basesOf (bytesOf reference (part (placeOf (posOn m) .0) (length (field 3 m)))) ≡ basesOf (newRef reference l) =
-        ap basesOf (ap (λ (n : ℕ). take (length (field 3 m)) (drop n reference)) same-start
+        ap basesOf (ap (λ (p : Place). take (length (field 3 m)) (drop (p .0) reference)) same-start
         ∙ ap (λ (f : List ℕ). take (length f) (drop s reference)) (written-3 reference l good one line)
         ∙ take-own (newOn reference l .span) (drop s reference)) in
         let first : basesOf (bytesOf m (entryOf m 0 .first)) ≡ basesOf (newFirst reference l) =

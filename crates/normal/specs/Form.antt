@@ -4,10 +4,12 @@ use mathlib.Core.List.{List, [], _∷_, _++_, map, List·Memᴰ}
 use mathlib.Core.Path.{_≡_}
 use Prim.Native.Nat.{ℕ, _+_, _-_, _≤_, _<_}
 use lib.ListN.{length, getD, take, drop}
+use Rattle.bases.specs.declared.place.Place.{Place}
+use Rattle.bases.specs.Place.{posOf}
 
--- An entry, as far as its normal form goes: the place where REF begins (POS less 1), REF, and the ALTs.
+-- An entry, as far as its normal form goes: the place where REF begins (that of POS), REF, and the ALTs.
 pub record Form : Type 0 where
-  pub start : ℕ
+  pub start : Place
   pub ref : List ℕ
   pub alts : List (List ℕ)
 
@@ -25,11 +27,11 @@ One P xs = (a : List ℕ) × List·Memᴰ a xs × P a
 
 -- Where the span ends.
 abbrev pub spanEnd : Form → ℕ
-spanEnd f = f .start + length (f .ref)
+spanEnd f = f .start .0 + length (f .ref)
 
 -- REF equals the reference at POS.
 abbrev pub OnReference : List ℕ → Form → Type 0
-OnReference r f = (spanEnd f ≤ length r) × (take (length (f .ref)) (drop (f .start) r) ≡ f .ref)
+OnReference r f = (spanEnd f ≤ length r) × (take (length (f .ref)) (drop (f .start .0) r) ≡ f .ref)
 
 -- None is empty.
 abbrev pub NoneEmpty : Form → Type 0
@@ -53,12 +55,12 @@ AllBeginAlike f = Each (λ a. first a ≡ first (f .ref)) (f .alts)
 -- they do not all begin with the same base while all have length 2 or more.
 pub record Normal (f : Form) : Type 0 where
   pub some : NoneEmpty f
-  pub ends : AllEndAlike f → (f .start ≡ 0) × One (λ a. length a ≡ 1) (alleles f)
+  pub ends : AllEndAlike f → (posOf (f .start) .0 ≡ 1) × One (λ a. length a ≡ 1) (alleles f)
   pub begins : AllBeginAlike f → Each (λ a. 2 ≤ length a) (alleles f) → ⊥
 
 -- The donor over the whole reference r for one allele alone: the reference with the span replaced by the allele.
 abbrev pub donor : List ℕ → Form → List ℕ → List ℕ
-donor r f a = take (f .start) r ++ a ++ drop (spanEnd f) r
+donor r f a = take (f .start .0) r ++ a ++ drop (spanEnd f) r
 
 -- The same ALT count, and for each ALT alone the same donor over the whole reference.
 abbrev pub SameDonors : List ℕ → Form → Form → Type 0

@@ -18,7 +18,7 @@ use Rattle.normal.specs.Form.{Form}
 use Rattle.normal.specs.Cut.{shortest, cutOf, trimOf, newStart}
 
 -- An entry with two ALTs.
-abbrev pub three : ℕ → List ℕ → List ℕ → List ℕ → Form
+abbrev pub three : Place → List ℕ → List ℕ → List ℕ → Form
 three s a b c = record { start = s; ref = a; alts = b ∷ c ∷ [] }
 
 -- The numbers of the closed form.
@@ -53,7 +53,7 @@ lastAlt e = pick (eqb (e .alts) 2) (e .second) (e .first)
 abbrev pub formOf : List ℕ → List ℕ → Entry → Form
 formOf reference text e =
     record {
-      start = startOf e .0;
+      start = startOf e;
       ref = basesOf (bytesOf reference (part (startOf e .0) (e .reference .len)));
       alts =
           pick (eqb (e .alts) 2)
@@ -78,8 +78,8 @@ normalEntry reference text e =
     let f = formOf reference text e in
     let c = cutsOf (basesOf reference) f in
     record {
-      start = record { 0 = newStart f (c .back) (c .front) };
-      span = startOf e .0 + e .reference .len - c .back - newStart f (c .back) (c .front);
+      start = newStart f (c .back) (c .front);
+      span = startOf e .0 + e .reference .len - c .back - newStart f (c .back) (c .front) .0;
       first = spelled c (e .first);
       second = spelled c (lastAlt e);
     }
@@ -96,7 +96,7 @@ OnBoth reference text p a = (p .0 + a .front ≤ length reference) × (a .own .a
 abbrev pub formSpelled : List ℕ → List ℕ → ℕ → NormalEntry → Form
 formSpelled reference text alts n =
     record {
-      start = n .start .0;
+      start = n .start;
       ref = basesOf (bytesOf reference (part (n .start .0) (n .span)));
       alts =
           pick (eqb alts 2)

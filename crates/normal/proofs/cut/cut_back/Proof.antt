@@ -18,7 +18,7 @@ use Rattle.normal.proofs.cut.cut_back.Lts as lts
 use Rattle.normal.proofs.cut.back_at.Reads as back-at-reads
 
 abbrev Inv-loop : tie.InvT-loop
-Inv-loop reference start a b c most q₀ q = (q ≤ most) × ((i : ℕ) → i < q → T (backAlike? (basesOf reference) (three (start .0) (basesOf a) (basesOf b) (basesOf c)) i))
+Inv-loop reference start a b c most q₀ q = (q ≤ most) × ((i : ℕ) → i < q → T (backAlike? (basesOf reference) (three start (basesOf a) (basesOf b) (basesOf c)) i))
 
 abbrev μ-loop : tie.MeasureT-loop
 μ-loop reference start a b c most q₀ q = most - q
@@ -40,7 +40,7 @@ returns c =
     let b = basesOf (x .b .now) in
     let d = basesOf (x .c .now) in
     let q = c .before .before .before .before .loop .q in
-    sym (run-is (backAlike? r (three (x .start .0) a b d)) (x .most) q (omega arith) (c .before .before .before .before .loop .inv .1)
+    sym (run-is (backAlike? r (three (x .start) a b d)) (x .most) q (omega arith) (c .before .before .before .before .loop .inv .1)
     (λ l t. c .if1 .taken (alike-first (backAt r (x .start .0) q) a b d (c .before .before .back-at .ensures) (c .before .back-at2 .ensures) t)))
 
 back-at-requires-3 : tie.Need-back-at-requires-3 Inv-loop μ-loop
@@ -54,7 +54,7 @@ returns-2 c =
     let b = basesOf (x .b .now) in
     let d = basesOf (x .c .now) in
     let q = c .before .before .before .before .before .before .loop .q in
-    sym (run-is (backAlike? r (three (x .start .0) a b d)) (x .most) q (omega arith) (c .before .before .before .before .before .before .loop .inv .1)
+    sym (run-is (backAlike? r (three (x .start) a b d)) (x .most) q (omega arith) (c .before .before .before .before .before .before .loop .inv .1)
     (λ l t. c .if2 .taken (alike-second (backAt r (x .start .0) q) a b d (c .before .before .before .before .back-at .ensures) (c .before .back-at3 .ensures) t)))
 
 add-q : tie.Need-add-q Inv-loop μ-loop
@@ -72,7 +72,7 @@ loop-again c =
     let d = basesOf (x .c .now) in
     let q = c .before .before .before .before .before .before .loop .q in (
       omega arith,
-      below-more (λ i. T (backAlike? r (three (x .start .0) a b d) i)) q (c .before .before .before .before .before .before .loop .inv .1)
+      below-more (λ i. T (backAlike? r (three (x .start) a b d) i)) q (c .before .before .before .before .before .before .loop .inv .1)
           (alike (backAt r (x .start .0) q) a b d (c .before .before .before .before .back-at .ensures) (c .before .before .before .back-at2 .ensures) (c .before .back-at3 .ensures) (c .before .before .if1 .left) (c .if2 .left)),
     )
 
@@ -84,7 +84,7 @@ returns-3 c =
     let b = basesOf (x .b .now) in
     let d = basesOf (x .c .now) in
     let q = c .before .loop .q in
-    sym (run-is (backAlike? r (three (x .start .0) a b d)) (x .most) q (omega arith) (c .before .loop .inv .1) (λ l. absurd (omega arith)))
+    sym (run-is (backAlike? r (three (x .start) a b d)) (x .most) q (omega arith) (c .before .loop .inv .1) (λ l. absurd (omega arith)))
 
 pub cut-back-spec : {M : Type 1} → statement M
 cut-back-spec =

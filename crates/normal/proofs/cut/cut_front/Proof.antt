@@ -20,7 +20,7 @@ use Rattle.normal.proofs.cut.cut_front.Lts as lts
 use Rattle.bases.proofs.letter.letter.Reads as letter-reads
 
 abbrev Inv-loop : tie.InvT-loop
-Inv-loop a b c most t₀ t = (t ≤ most) × ((i : ℕ) → i < t → T (frontAlike? (three 0 (basesOf a) (basesOf b) (basesOf c)) i))
+Inv-loop a b c most t₀ t = (t ≤ most) × ((i : ℕ) → i < t → T (frontAlike? (three (record { 0 = 0 }) (basesOf a) (basesOf b) (basesOf c)) i))
 
 abbrev μ-loop : tie.MeasureT-loop
 μ-loop a b c most t₀ t = most - t
@@ -47,7 +47,7 @@ returns c =
     let b = x .b .now in
     let d = x .c .now in
     let t = c .before .before .before .before .before .before .loop .t in
-    sym (run-is (frontAlike? (three 0 (basesOf a) (basesOf b) (basesOf d))) (x .most) t (omega arith) (c .before .before .before .before .before .before .loop .inv .1)
+    sym (run-is (frontAlike? (three (record { 0 = 0 }) (basesOf a) (basesOf b) (basesOf d))) (x .most) t (omega arith) (c .before .before .before .before .before .before .loop .inv .1)
     (λ l h. c .if1 .taken (alike-first (λ y. getD y t 0) (basesOf a) (basesOf b) (basesOf d) (letter-at a t (c .before .before .before .letter .ensures)) (letter-at b t (c .before .letter2 .ensures)) h)))
 
 shared-slice-read-letter-3 : tie.Need-shared-slice-read-letter-3 Inv-loop μ-loop
@@ -63,7 +63,7 @@ returns-2 c =
     let b = x .b .now in
     let d = x .c .now in
     let t = c .before .before .before .before .before .before .before .before .before .loop .t in
-    sym (run-is (frontAlike? (three 0 (basesOf a) (basesOf b) (basesOf d))) (x .most) t (omega arith) (c .before .before .before .before .before .before .before .before .before .loop .inv .1)
+    sym (run-is (frontAlike? (three (record { 0 = 0 }) (basesOf a) (basesOf b) (basesOf d))) (x .most) t (omega arith) (c .before .before .before .before .before .before .before .before .before .loop .inv .1)
     (λ l h. c .if2 .taken (alike-second (λ y. getD y t 0) (basesOf a) (basesOf b) (basesOf d) (letter-at a t (c .before .before .before .before .before .before .letter .ensures)) (letter-at d t (c .before .letter3 .ensures)) h)))
 
 add-t : tie.Need-add-t Inv-loop μ-loop
@@ -80,7 +80,7 @@ loop-again c =
     let d = x .c .now in
     let t = c .before .before .before .before .before .before .before .before .before .loop .t in (
       omega arith,
-      below-more (λ i. T (frontAlike? (three 0 (basesOf a) (basesOf b) (basesOf d)) i)) t (c .before .before .before .before .before .before .before .before .before .loop .inv .1)
+      below-more (λ i. T (frontAlike? (three (record { 0 = 0 }) (basesOf a) (basesOf b) (basesOf d)) i)) t (c .before .before .before .before .before .before .before .before .before .loop .inv .1)
           (alike (λ y. getD y t 0) (basesOf a) (basesOf b) (basesOf d) (letter-at a t (c .before .before .before .before .before .before .letter .ensures)) (letter-at b t (c .before .before .before .before .letter2 .ensures)) (letter-at d t (c .before .letter3 .ensures)) (c .before .before .before .if1 .left) (c .if2 .left)),
     )
 
@@ -91,7 +91,7 @@ returns-3 c =
     let b = x .b .now in
     let d = x .c .now in
     let t = c .before .loop .t in
-    sym (run-is (frontAlike? (three 0 (basesOf a) (basesOf b) (basesOf d))) (x .most) t (omega arith) (c .before .loop .inv .1) (λ l. absurd (omega arith)))
+    sym (run-is (frontAlike? (three (record { 0 = 0 }) (basesOf a) (basesOf b) (basesOf d))) (x .most) t (omega arith) (c .before .loop .inv .1) (λ l. absurd (omega arith)))
 
 pub cut-front-spec : {M : Type 1} → statement M
 cut-front-spec =

@@ -43,7 +43,7 @@ cut-front-requires c κs = search needs
 returns : tie.Need-returns
 returns c =
     let x = c .before .before .before .before .before .before .before .before .before .before .args in
-    cuts-are (basesOf (x .reference .now)) (x .start .0) (x .a .now) (x .b .now) (x .c .now)
+    cuts-are (basesOf (x .reference .now)) (x .start) (x .a .now) (x .b .now) (x .c .now)
     (c .before .before .before .before .before .shorter .ensures)
     (c .before .before .before .before .shorter2 .ensures)
     (c .before .before .cut-back .ensures)
@@ -52,10 +52,10 @@ returns c =
 returns-2 : tie.Need-returns-2
 returns-2 c =
     let x = c .before .before .before .before .before .before .before .before .before .args in
-    let f = three (x .start .0) (basesOf (x .a .now)) (basesOf (x .b .now)) (basesOf (x .c .now)) in
+    let f = three (x .start) (basesOf (x .a .now)) (basesOf (x .b .now)) (basesOf (x .c .now)) in
     let n = c .before .before .before .shorter2 .result - c .before .cut-back .result - 1 in
     let none : 0 ≡ run (frontAlike? f) n = omega (arith, run-le (frontAlike? f) n) in
-    cuts-are (basesOf (x .reference .now)) (x .start .0) (x .a .now) (x .b .now) (x .c .now)
+    cuts-are (basesOf (x .reference .now)) (x .start) (x .a .now) (x .b .now) (x .c .now)
     (c .before .before .before .before .shorter .ensures)
     (c .before .before .before .shorter2 .ensures)
     (c .before .cut-back .ensures)

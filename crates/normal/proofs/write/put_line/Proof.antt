@@ -1,5 +1,4 @@
 -- `normal::write::put_line` meets its contract: the line up to its REF is written, and from its REF on behind that. Assumes nothing.
-use Prim.Native.Nat.{_+_}
 use native.Mathlib.Omega.{arith}
 use borrow.Author.Needs.{needs}
 use Rattle.bases.specs.Place.{posOf}
