@@ -3,8 +3,9 @@
 use mathlib.Core.Bool.{Bool}
 use mathlib.Core.List.{List, [], _∷_}
 use mathlib.Core.Path.{_≡_, refl}
-use Prim.Native.Nat.{ℕ, _-_}
+use Prim.Native.Nat.{ℕ}
 use lib.ListN.{length}
+use Rattle.bases.specs.Place.{placeOf}
 use Rattle.bases.specs.Letter.{among?, letterOf}
 use Rattle.bases.specs.Period.{anyPeriod?}
 use Rattle.bases.specs.Same.{agree?}
@@ -30,7 +31,7 @@ T = 84
 
 -- An entry with one ALT, 1/1.
 abbrev hom : Bool → ℕ → List ℕ → List ℕ → Variant
-hom j pos ref alt = record { side = j; start = pos - 1; len = length ref; allele0 = alt; allele1 = alt }
+hom j pos ref alt = record { side = j; start = placeOf (record { 0 = pos }) .0; len = length ref; allele0 = alt; allele1 = alt }
 
 -- A row: the reference, the entries of the two lists, and the plan.
 pub record Row : Type 0 where

@@ -40,10 +40,10 @@ module _ {X C H : Type 0} (𝓡 : Rules X C H) (R : List ℕ) where
   pub first-none : (c : Current) → left c [] ≡ 0
   first-none c = rw (rest-none 𝓡 R c)
 
-  pub first-cut : (c : Current) (x : X) (xs : List X) → cut? R c (𝓡 .start x) ≡ true → left c (x ∷ xs) ≡ 0
+  pub first-cut : (c : Current) (x : X) (xs : List X) → cut? R c (sizeOf 𝓡 x .start) ≡ true → left c (x ∷ xs) ≡ 0
   first-cut c x xs e = rw (rest-cut 𝓡 R c x xs e)
 
-  pub first-more : (c : Current) (x : X) (xs : List X) → cut? R c (𝓡 .start x) ≡ false → left c (x ∷ xs) ≡ left (more c (sizeOf 𝓡 x)) xs + 1
+  pub first-more : (c : Current) (x : X) (xs : List X) → cut? R c (sizeOf 𝓡 x .start) ≡ false → left c (x ∷ xs) ≡ left (more c (sizeOf 𝓡 x)) xs + 1
   first-more c x xs e =
       rw (rest-more 𝓡 R c x xs e, first-onto x (rest 𝓡 R (more c (sizeOf 𝓡 x)) xs)) (sym (add-one (left (more c (sizeOf 𝓡 x)) xs)))
 
@@ -53,9 +53,9 @@ module _ {X C H : Type 0} (𝓡 : Rules X C H) (R : List ℕ) where
 
   first-rest : (c : Current) (xs : List X) → firstOf (rest 𝓡 R c xs) ≡ take (left c xs) xs
   first-rest c [] = rw (rest-none 𝓡 R c)
-  first-rest c (x ∷ xs) = go (cut? R c (𝓡 .start x)) refl (first-rest (more c (sizeOf 𝓡 x)) xs)
+  first-rest c (x ∷ xs) = go (cut? R c (sizeOf 𝓡 x .start)) refl (first-rest (more c (sizeOf 𝓡 x)) xs)
     where
-      go : (t : Bool) → cut? R c (𝓡 .start x) ≡ t → firstOf (rest 𝓡 R (more c (sizeOf 𝓡 x)) xs) ≡ take (left (more c (sizeOf 𝓡 x)) xs) xs
+      go : (t : Bool) → cut? R c (sizeOf 𝓡 x .start) ≡ t → firstOf (rest 𝓡 R (more c (sizeOf 𝓡 x)) xs) ≡ take (left (more c (sizeOf 𝓡 x)) xs) xs
           → firstOf (rest 𝓡 R c (x ∷ xs)) ≡ take (left c (x ∷ xs)) (x ∷ xs)
       go true e i = rw (rest-cut 𝓡 R c x xs e)
       go false e i = rw (rest-more 𝓡 R c x xs e, first-onto x (rest 𝓡 R (more c (sizeOf 𝓡 x)) xs)) (ap (λ (ys : List X). x ∷ ys) i)
@@ -68,12 +68,12 @@ module _ {X C H : Type 0} (𝓡 : Rules X C H) (R : List ℕ) where
   rest-step : (c : Current) (xs : List X) → rest 𝓡 R c xs ≡ firstOf (rest 𝓡 R c xs) ∷ plan 𝓡 R (drop (left c xs) xs)
   unfolding plan
   rest-step c [] = rw (rest-none 𝓡 R c)
-  rest-step c (x ∷ xs) = go (cut? R c (𝓡 .start x)) refl (rest-step (more c (sizeOf 𝓡 x)) xs)
+  rest-step c (x ∷ xs) = go (cut? R c (sizeOf 𝓡 x .start)) refl (rest-step (more c (sizeOf 𝓡 x)) xs)
     where
       Step : Current → List X → Type 0
       Step d ys = rest 𝓡 R d ys ≡ firstOf (rest 𝓡 R d ys) ∷ plan 𝓡 R (drop (left d ys) ys)
 
-      go : (t : Bool) → cut? R c (𝓡 .start x) ≡ t → Step (more c (sizeOf 𝓡 x)) xs → Step c (x ∷ xs)
+      go : (t : Bool) → cut? R c (sizeOf 𝓡 x .start) ≡ t → Step (more c (sizeOf 𝓡 x)) xs → Step c (x ∷ xs)
       go true e i = rw (rest-cut 𝓡 R c x xs e)
       go false e i =
           rw (rest-more 𝓡 R c x xs e, first-onto x (rest 𝓡 R (more c (sizeOf 𝓡 x)) xs)) (ap (onto (x ∷ [])) i)
@@ -86,10 +86,10 @@ module _ {X C H : Type 0} (𝓡 : Rules X C H) (R : List ℕ) where
   rest-some : (c : Current) (d : List X) (xs : List X) → Some d → All Some (onto d (rest 𝓡 R c xs))
   rest-some c d [] s = rw (rest-none 𝓡 R c) (omega (arith, length-append d []), tt)
   rest-some c d (x ∷ xs) s =
-      go (cut? R c (𝓡 .start x)) refl (rest-some (begin (sizeOf 𝓡 x)) (x ∷ []) xs (omega arith))
+      go (cut? R c (sizeOf 𝓡 x .start)) refl (rest-some (begin (sizeOf 𝓡 x)) (x ∷ []) xs (omega arith))
       (rest-some (more c (sizeOf 𝓡 x)) (d ++ (x ∷ [])) xs (omega (arith, length-append d (x ∷ []))))
     where
-      go : (t : Bool) → cut? R c (𝓡 .start x) ≡ t → All Some (onto (x ∷ []) (rest 𝓡 R (begin (sizeOf 𝓡 x)) xs))
+      go : (t : Bool) → cut? R c (sizeOf 𝓡 x .start) ≡ t → All Some (onto (x ∷ []) (rest 𝓡 R (begin (sizeOf 𝓡 x)) xs))
           → All Some (onto (d ++ (x ∷ [])) (rest 𝓡 R (more c (sizeOf 𝓡 x)) xs)) → All Some (onto d (rest 𝓡 R c (x ∷ xs)))
       go true e i j = rw (rest-cut 𝓡 R c x xs e) (omega (arith, length-append d []), i)
       go false e i j = rw (rest-more 𝓡 R c x xs e, onto-onto d (x ∷ [])) j

@@ -6,7 +6,8 @@
 --     source-cut                where source document 000 allows a cut, so does this rule
 --     stop, stop-ends, currentOf, current-begin, current-more
 --                               what is kept of a cluster: the largest end and the four sums over its items, one item more at a time
---     more-first, more-second   one item more, by its list
+--     largest-new, largest-old, more-first, more-second
+--                               one item more: which end is the largest, and the sums by its list
 --     cut-right                 where the rule cuts behind a cluster, matching may cut
 -- Assumes nothing.
 use mathlib.Core.Bool.{Bool, true, false, Bool·beq, not, _&&_}
@@ -19,6 +20,7 @@ use native.Mathlib.Omega.{arith}
 use borrow.Author.Tests.{le-leb, lt-leb, lt-ltb, eq-eqb}
 use lib.Dec.{T, T-not, not-T, eqb, leb, ltb, leb→le, ltb→lt, eqb→eq}
 use lib.ListN.{length}
+use Rattle.bases.specs.declared.place.Place.{Place}
 use Rattle.bases.specs.Letter.{basesOf}
 use Rattle.bases.specs.Period.{Period, NoPeriod, anyPeriod?}
 use Rattle.bases.proofs.LetterLaws.{bases-length, bases-part}
@@ -33,82 +35,88 @@ use Rattle.clusters.specs.declared.gap.Current.{Current}
 use Rattle.clusters.specs.declared.gap.Size.{Size}
 use Rattle.clusters.specs.Gap.{sizeOf, more, begin, reachOf, gapCuts?, cut?}
 
-module _ (R : List ℕ) (g b p : ℕ) where
+module _ (R : List ℕ) (g : ℕ) (b p : Place) where
   -- the gap is longer than g and has no period up to g
   abbrev long? : Bool
-  long? = ltb g (p - b) && not (anyPeriod? g (part R b p))
+  long? = ltb g (p .0 - b .0) && not (anyPeriod? g (part R (b .0) (p .0)))
 
-  pub gap-words : T (gapCuts? R g b p) ↔ ((g ≡ 0) ⊎ ((g < p - b) × NoPeriod g (part R b p)))
+  pub gap-words : T (gapCuts? R g b p) ↔ ((g ≡ 0) ⊎ ((g < p .0 - b .0) × NoPeriod g (part R (b .0) (p .0))))
   gap-words = (
-    λ t. ⊎-elim (λ z. inl (eqb→eq g 0 z)) (λ k. inr (to (both (ltb g (p - b)) (not (anyPeriod? g (part R b p))) .0 k))) (either (eqb g 0) long? .0 t),
+    λ t. ⊎-elim (λ z. inl (eqb→eq g 0 z)) (λ k. inr (to (both (ltb g (p .0 - b .0)) (not (anyPeriod? g (part R (b .0) (p .0)))) .0 k))) (either (eqb g 0) long? .0 t),
     λ w. either (eqb g 0) long? .1 (⊎-elim (λ z. inl (of-true (eq-eqb g 0 z))) (λ k. inr (of k)) w),
   )
     where
-      to : T (ltb g (p - b)) × T (not (anyPeriod? g (part R b p))) → (g < p - b) × NoPeriod g (part R b p)
-      to k = (ltb→lt g (p - b) (k .0), no-period-iff g (part R b p) .0 (is-false (anyPeriod? g (part R b p)) (T-not (anyPeriod? g (part R b p)) (k .1))))
+      to : T (ltb g (p .0 - b .0)) × T (not (anyPeriod? g (part R (b .0) (p .0)))) → (g < p .0 - b .0) × NoPeriod g (part R (b .0) (p .0))
+      to k = (ltb→lt g (p .0 - b .0) (k .0), no-period-iff g (part R (b .0) (p .0)) .0 (is-false (anyPeriod? g (part R (b .0) (p .0))) (T-not (anyPeriod? g (part R (b .0) (p .0))) (k .1))))
 
-      of : (g < p - b) × NoPeriod g (part R b p) → T long?
+      of : (g < p .0 - b .0) × NoPeriod g (part R (b .0) (p .0)) → T long?
       of k =
-          both (ltb g (p - b)) (not (anyPeriod? g (part R b p))) .1
-          (of-true (lt-ltb g (p - b) (k .0)), not-T (anyPeriod? g (part R b p)) (of-false (no-period-iff g (part R b p) .1 (k .1))))
+          both (ltb g (p .0 - b .0)) (not (anyPeriod? g (part R (b .0) (p .0)))) .1
+          (of-true (lt-ltb g (p .0 - b .0) (k .0)), not-T (anyPeriod? g (part R (b .0) (p .0))) (of-false (no-period-iff g (part R (b .0) (p .0)) .1 (k .1))))
 
-  gap-period : T (gapCuts? R g b p) → NoPeriod g (part R b p)
+  gap-period : T (gapCuts? R g b p) → NoPeriod g (part R (b .0) (p .0))
   gap-period t = ⊎-elim (λ z q h k. absurd (omega arith)) (λ w. w .1) (gap-words .0 t)
 
-  period-gap : p ≤ length R → NoPeriod g (part R b p) → T (gapCuts? R g b p)
+  period-gap : p .0 ≤ length R → NoPeriod g (part R (b .0) (p .0)) → T (gapCuts? R g b p)
   period-gap h n = gap-words .1 (go (ℕ-discrete g 0))
     where
-      go : Dec (g ≡ 0) → (g ≡ 0) ⊎ ((g < p - b) × NoPeriod g (part R b p))
+      go : Dec (g ≡ 0) → (g ≡ 0) ⊎ ((g < p .0 - b .0) × NoPeriod g (part R (b .0) (p .0)))
       go (yes z) = inl z
-      go (no z) = inr (omega (arith, part-length R b p h, no-period-long g (part R b p) (omega arith) n), n)
+      go (no z) = inr (omega (arith, part-length R (b .0) (p .0) h, no-period-long g (part R (b .0) (p .0)) (omega arith) n), n)
 
-  gap-test : p ≤ length R → gapCuts? R g b p ≡ not (anyPeriod? g (part R b p))
-  gap-test h = go (anyPeriod? g (part R b p)) refl
+  gap-test : p .0 ≤ length R → gapCuts? R g b p ≡ not (anyPeriod? g (part R (b .0) (p .0)))
+  gap-test h = go (anyPeriod? g (part R (b .0) (p .0))) refl
     where
-      go : (t : Bool) → anyPeriod? g (part R b p) ≡ t → gapCuts? R g b p ≡ not t
-      go true e = is-false (gapCuts? R g b p) (λ k. of-false (no-period-iff g (part R b p) .1 (gap-period k)) (of-true e))
-      go false e = is-true (gapCuts? R g b p) (period-gap h (no-period-iff g (part R b p) .0 e))
+      go : (t : Bool) → anyPeriod? g (part R (b .0) (p .0)) ≡ t → gapCuts? R g b p ≡ not t
+      go true e = is-false (gapCuts? R g b p) (λ k. of-false (no-period-iff g (part R (b .0) (p .0)) .1 (gap-period k)) (of-true e))
+      go false e = is-true (gapCuts? R g b p) (period-gap h (no-period-iff g (part R (b .0) (p .0)) .0 e))
 
-module _ (R : List ℕ) (c : Current) (p : ℕ) where
-  pub cut-words : T (cut? R c p) ↔ ((c .b ≤ p) × ((reachOf c ≡ 0) ⊎ ((reachOf c < p - c .b) × NoPeriod (reachOf c) (part R (c .b) p))))
+module _ (R : List ℕ) (c : Current) (p : Place) where
+  pub cut-words : T (cut? R c p) ↔ ((c .b .0 ≤ p .0) × ((reachOf c ≡ 0) ⊎ ((reachOf c < p .0 - c .b .0) × NoPeriod (reachOf c) (part R (c .b .0) (p .0)))))
   cut-words = (
-    λ t. let k = both (leb (c .b) p) (gapCuts? R (reachOf c) (c .b) p) .0 t in (leb→le (c .b) p (k .0), gap-words R (reachOf c) (c .b) p .0 (k .1)),
-    λ w. both (leb (c .b) p) (gapCuts? R (reachOf c) (c .b) p) .1 (of-true (le-leb (c .b) p (w .0)), gap-words R (reachOf c) (c .b) p .1 (w .1)),
+    λ t. let k = both (leb (c .b .0) (p .0)) (gapCuts? R (reachOf c) (c .b) p) .0 t in (leb→le (c .b .0) (p .0) (k .0), gap-words R (reachOf c) (c .b) p .0 (k .1)),
+    λ w. both (leb (c .b .0) (p .0)) (gapCuts? R (reachOf c) (c .b) p) .1 (of-true (le-leb (c .b .0) (p .0) (w .0)), gap-words R (reachOf c) (c .b) p .1 (w .1)),
   )
 
-  pub cut-gap : T (cut? R c p) → (c .b ≤ p) × NoPeriod (reachOf c) (part R (c .b) p)
+  pub cut-gap : T (cut? R c p) → (c .b .0 ≤ p .0) × NoPeriod (reachOf c) (part R (c .b .0) (p .0))
   cut-gap t =
-      let k = both (leb (c .b) p) (gapCuts? R (reachOf c) (c .b) p) .0 t in
-      (leb→le (c .b) p (k .0), gap-period R (reachOf c) (c .b) p (k .1))
+      let k = both (leb (c .b .0) (p .0)) (gapCuts? R (reachOf c) (c .b) p) .0 t in
+      (leb→le (c .b .0) (p .0) (k .0), gap-period R (reachOf c) (c .b) p (k .1))
 
-  pub gap-cut : p ≤ length R → c .b ≤ p → NoPeriod (reachOf c) (part R (c .b) p) → T (cut? R c p)
+  pub gap-cut : p .0 ≤ length R → c .b .0 ≤ p .0 → NoPeriod (reachOf c) (part R (c .b .0) (p .0)) → T (cut? R c p)
   gap-cut h k n =
-      both (leb (c .b) p) (gapCuts? R (reachOf c) (c .b) p) .1 (of-true (le-leb (c .b) p k), period-gap R (reachOf c) (c .b) p h n)
+      both (leb (c .b .0) (p .0)) (gapCuts? R (reachOf c) (c .b) p) .1 (of-true (le-leb (c .b .0) (p .0) k), period-gap R (reachOf c) (c .b) p h n)
 
-  pub cut-behind : p < c .b → cut? R c p ≡ false
-  cut-behind h = rw (lt-leb (c .b) p h)
+  pub cut-behind : p .0 < c .b .0 → cut? R c p ≡ false
+  cut-behind h = rw (lt-leb (c .b .0) (p .0) h)
 
-  pub cut-test : p ≤ length R → c .b ≤ p → cut? R c p ≡ not (anyPeriod? (reachOf c) (part R (c .b) p))
-  cut-test h k = rw (le-leb (c .b) p k) (gap-test R (reachOf c) (c .b) p h)
+  pub cut-test : p .0 ≤ length R → c .b .0 ≤ p .0 → cut? R c p ≡ not (anyPeriod? (reachOf c) (part R (c .b .0) (p .0)))
+  cut-test h k = rw (le-leb (c .b .0) (p .0) k) (gap-test R (reachOf c) (c .b) p h)
 
   -- a gap of more than 2g with no period of at most half its length
-  pub source-cut : p ≤ length R → c .b ≤ p → reachOf c + reachOf c < p - c .b
-      → ((q : ℕ) → 1 ≤ q → q + q ≤ p - c .b → Period q (part R (c .b) p) → ⊥)
+  pub source-cut : p .0 ≤ length R → c .b .0 ≤ p .0 → reachOf c + reachOf c < p .0 - c .b .0
+      → ((q : ℕ) → 1 ≤ q → q + q ≤ p .0 - c .b .0 → Period q (part R (c .b .0) (p .0)) → ⊥)
       → T (cut? R c p)
   source-cut h k long none = gap-cut h k (λ q a d. none q a (omega arith))
 
 -- The same of bytes, as the code asks it.
-pub cut-bases : (bytes : List ℕ) (c : Current) (p : ℕ) → p ≤ length bytes → c .b ≤ p
-    → cut? (basesOf bytes) c p ≡ not (anyPeriod? (reachOf c) (basesOf (part bytes (c .b) p)))
+pub cut-bases : (bytes : List ℕ) (c : Current) (p : Place) → p .0 ≤ length bytes → c .b .0 ≤ p .0
+    → cut? (basesOf bytes) c p ≡ not (anyPeriod? (reachOf c) (basesOf (part bytes (c .b .0) (p .0))))
 cut-bases bytes c p h k =
-    let e : part (basesOf bytes) (c .b) p ≡ basesOf (part bytes (c .b) p) = sym (bases-part bytes (c .b) (p - c .b)) in
+    let e : part (basesOf bytes) (c .b .0) (p .0) ≡ basesOf (part bytes (c .b .0) (p .0)) = sym (bases-part bytes (c .b .0) (p .0 - c .b .0)) in
     cut-test (basesOf bytes) c p (rw (bases-length bytes) h) k ∙ ap (λ (y : List ℕ). not (anyPeriod? (reachOf c) y)) e
 
-pub cut-read : (bytes : List ℕ) (c : Current) (p : ℕ) {g : ℕ} {t : Bool} → p ≤ length bytes → c .b ≤ p
-    → g ≡ reachOf c → t ≡ anyPeriod? g (basesOf (part bytes (c .b) p)) → not t ≡ cut? (basesOf bytes) c p
+pub cut-read : (bytes : List ℕ) (c : Current) (p : Place) {g : ℕ} {t : Bool} → p .0 ≤ length bytes → c .b .0 ≤ p .0
+    → g ≡ reachOf c → t ≡ anyPeriod? g (basesOf (part bytes (c .b .0) (p .0))) → not t ≡ cut? (basesOf bytes) c p
 cut-read bytes c p h k eg et = let e = cut-bases bytes c p h k in cc
 
-module _ (c : Current) (z : Size) (m : ℕ) (e : m ≡ max (c .b) (z .end)) where
+pub largest-new : (b d : Place) → b .0 < d .0 → d ≡ record { 0 = max (b .0) (d .0) }
+largest-new b d h = let e : d .0 ≡ max (b .0) (d .0) = omega arith in ap (λ (n : ℕ). record { 0 = n }) e
+
+pub largest-old : (b d : Place) → d .0 ≤ b .0 → b ≡ record { 0 = max (b .0) (d .0) }
+largest-old b d h = let e : b .0 ≡ max (b .0) (d .0) = omega arith in ap (λ (n : ℕ). record { 0 = n }) e
+
+module _ (c : Current) (z : Size) (m : Place) (e : m ≡ record { 0 = max (c .b .0) (z .end .0) }) where
   pub more-first : z .side ≡ true → record { b = m; a1 = c .a1 + z .shrink; b1 = c .b1 + z .grow; a2 = c .a2; b2 = c .b2 } ≡ more c z
   more-first s =
       let x : c .a2 + 0 ≡ c .a2 = omega arith in
@@ -139,7 +147,7 @@ module _ {X C H : Type 0} (𝓡 : Rules X C H) where
   -- What is kept of a cluster of these items.
   abbrev pub currentOf : List X → Current
   currentOf xs = record {
-    b = stop xs;
+    b = record { 0 = stop xs };
     a1 = over 𝓡 (𝓡 .shrink) list1 xs;
     b1 = over 𝓡 (𝓡 .grow) list1 xs;
     a2 = over 𝓡 (𝓡 .shrink) list2 xs;
@@ -171,9 +179,9 @@ module _ {X C H : Type 0} (𝓡 : Rules X C H) where
   current-begin x = current-more [] x
 
   pub cut-right : (R : List ℕ) (cur : List X) (x : X) (xs : List X) → Sorted 𝓡 (x ∷ xs) → 𝓡 .start x + 𝓡 .len x ≤ length R
-      → T (cut? R (currentOf cur) (𝓡 .start x)) → Cut 𝓡 R cur (x ∷ xs)
+      → T (cut? R (currentOf cur) (sizeOf 𝓡 x .start)) → Cut 𝓡 R cur (x ∷ xs)
   cut-right R cur x xs s n t =
-      let k = cut-gap R (currentOf cur) (𝓡 .start x) t in
+      let k = cut-gap R (currentOf cur) (sizeOf 𝓡 x .start) t in
       record {
         b = stop cur;
         p = 𝓡 .start x;

@@ -39,9 +39,9 @@ module _ {X C H : Type 0} (𝓡 : Rules X C H) (R : List ℕ) where
 
   rest-few : (c : Current) (xs : List X) → length (rest 𝓡 R c xs) ≤ suc (length xs)
   rest-few c [] = omega (arith, ap length (rest-none 𝓡 R c))
-  rest-few c (x ∷ xs) = go (cut? R c (𝓡 .start x)) refl (rest-few (begin (sizeOf 𝓡 x)) xs) (rest-few (more c (sizeOf 𝓡 x)) xs)
+  rest-few c (x ∷ xs) = go (cut? R c (sizeOf 𝓡 x .start)) refl (rest-few (begin (sizeOf 𝓡 x)) xs) (rest-few (more c (sizeOf 𝓡 x)) xs)
     where
-      go : (t : Bool) → cut? R c (𝓡 .start x) ≡ t → length (rest 𝓡 R (begin (sizeOf 𝓡 x)) xs) ≤ suc (length xs)
+      go : (t : Bool) → cut? R c (sizeOf 𝓡 x .start) ≡ t → length (rest 𝓡 R (begin (sizeOf 𝓡 x)) xs) ≤ suc (length xs)
           → length (rest 𝓡 R (more c (sizeOf 𝓡 x)) xs) ≤ suc (length xs) → length (rest 𝓡 R c (x ∷ xs)) ≤ suc (suc (length xs))
       go true e i j =
           omega (arith, ap length (rest-cut 𝓡 R c x xs e), onto-few (x ∷ []) (rest 𝓡 R (begin (sizeOf 𝓡 x)) xs) (length xs) i)

@@ -48,9 +48,9 @@ module _ (reference name : List ℕ) where
 module _ {X C H : Type 0} (𝓡 : Rules X C H) (R : List ℕ) where
   left-le : (c : Current) (xs : List X) → left 𝓡 R c xs ≤ length xs
   left-le c [] = omega (arith, first-none 𝓡 R c)
-  left-le c (x ∷ xs) = go (cut? R c (𝓡 .start x)) refl (left-le (more c (sizeOf 𝓡 x)) xs)
+  left-le c (x ∷ xs) = go (cut? R c (sizeOf 𝓡 x .start)) refl (left-le (more c (sizeOf 𝓡 x)) xs)
     where
-      go : (t : Bool) → cut? R c (𝓡 .start x) ≡ t → left 𝓡 R (more c (sizeOf 𝓡 x)) xs ≤ length xs → left 𝓡 R c (x ∷ xs) ≤ suc (length xs)
+      go : (t : Bool) → cut? R c (sizeOf 𝓡 x .start) ≡ t → left 𝓡 R (more c (sizeOf 𝓡 x)) xs ≤ length xs → left 𝓡 R c (x ∷ xs) ≤ suc (length xs)
       go true e i = omega (arith, first-cut 𝓡 R c x xs e)
       go false e i = omega (arith, first-more 𝓡 R c x xs e)
 

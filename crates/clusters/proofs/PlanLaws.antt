@@ -26,12 +26,12 @@ onto-onto c d (e ∷ es) = ap (λ (f : List _). f ∷ es) (sym (append-assoc c d
 
 module _ {X C H : Type 0} (𝓡 : Rules X C H) (R : List ℕ) where
   -- Where the rule cuts, and where it does not.
-  pub rest-cut : (c : Current) (x : X) (xs : List X) → cut? R c (𝓡 .start x) ≡ true
+  pub rest-cut : (c : Current) (x : X) (xs : List X) → cut? R c (sizeOf 𝓡 x .start) ≡ true
       → rest 𝓡 R c (x ∷ xs) ≡ [] ∷ onto (x ∷ []) (rest 𝓡 R (begin (sizeOf 𝓡 x)) xs)
   unfolding rest
   rest-cut c x xs e = rw e
 
-  pub rest-more : (c : Current) (x : X) (xs : List X) → cut? R c (𝓡 .start x) ≡ false
+  pub rest-more : (c : Current) (x : X) (xs : List X) → cut? R c (sizeOf 𝓡 x .start) ≡ false
       → rest 𝓡 R c (x ∷ xs) ≡ onto (x ∷ []) (rest 𝓡 R (more c (sizeOf 𝓡 x)) xs)
   unfolding rest
   rest-more c x xs e = rw e
@@ -46,12 +46,12 @@ module _ {X C H : Type 0} (𝓡 : Rules X C H) (R : List ℕ) where
   unfolding join rest
   rest-cuts cur [] s n = (append-nil (cur ++ []), (tt, tt))
   rest-cuts cur (x ∷ xs) s n =
-      go (cut? R (currentOf 𝓡 cur) (𝓡 .start x)) refl (rest-cuts (x ∷ []) xs (s .1) (n .1)) (rest-cuts (cur ++ (x ∷ [])) xs (s .1) (n .1))
+      go (cut? R (currentOf 𝓡 cur) (sizeOf 𝓡 x .start)) refl (rest-cuts (x ∷ []) xs (s .1) (n .1)) (rest-cuts (cur ++ (x ∷ [])) xs (s .1) (n .1))
     where
       Right : List X → List X → List (List X) → Type 0
       Right d ys cs = (join (onto d cs) ≡ d ++ ys) × Cuts 𝓡 R (onto d cs)
 
-      go : (t : Bool) → cut? R (currentOf 𝓡 cur) (𝓡 .start x) ≡ t
+      go : (t : Bool) → cut? R (currentOf 𝓡 cur) (sizeOf 𝓡 x .start) ≡ t
           → Right (x ∷ []) xs (rest 𝓡 R (currentOf 𝓡 (x ∷ [])) xs) → Right (cur ++ (x ∷ [])) xs (rest 𝓡 R (currentOf 𝓡 (cur ++ (x ∷ []))) xs)
           → Right cur (x ∷ xs) (rest 𝓡 R (currentOf 𝓡 cur) (x ∷ xs))
       go true e i j =

@@ -37,7 +37,7 @@ use Rattle.clusters.specs.Item.{startOf, alleleOf, textOf, variant, lenO
 use Rattle.clusters.specs.Row.{inText, standOf, rowOf, numbersOf, tableOf, widened}
 use Rattle.clusters.proofs.CardClusters.{SoundItem}
 
-pub stand-ref : (e : Entry) {s k : ℕ} → s ≡ startOf e → k ≡ 0 → _≡_ {A = Allele} record { text = false; at = s; len = e .reference .len } (standOf e k)
+pub stand-ref : (e : Entry) {s : Place} {k : ℕ} → s ≡ startOf e → k ≡ 0 → _≡_ {A = Allele} record { text = false; at = s .0; len = e .reference .len } (standOf e k)
 stand-ref e es ek = cc
 
 pub stand-first : (e : Entry) {k : ℕ} → k ≡ 1 → inText (e .first) ≡ standOf e k
@@ -69,7 +69,7 @@ text-is false first second = refl
 part-within : (t : List ℕ) (p : Part) → length (basesOf (bytesOf t p)) ≡ p .len → 1 ≤ p .len → p .at + p .len ≤ length t
 part-within t p e h = omega (arith, bases-length (bytesOf t p), length-take (p .len) (drop (p .at) t), length-drop (p .at) t)
 
-stand-within : (reference text : List ℕ) (e : Entry) (k : ℕ) → startOf e + e .reference .len ≤ length reference
+stand-within : (reference text : List ℕ) (e : Entry) (k : ℕ) → startOf e .0 + e .reference .len ≤ length reference
     → length (alleleOf reference text e k) ≡ lenOf e k → 1 ≤ lenOf e k
     → standOf e k .at + standOf e k .len ≤ length (pick (standOf e k .text) text reference)
 stand-within reference text e zero w l s = w

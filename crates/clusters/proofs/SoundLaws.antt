@@ -16,6 +16,7 @@ use borrow.Author.Tests.{ltb-false, not-false}
 use lib.Dec.{T, eqb, leb, leb→le}
 use lib.ListN.{length, take, drop, getD, length-drop}
 use lib.Seq.{length-take-le}
+use Rattle.bases.specs.declared.place.Pos.{Pos}
 use Rattle.bases.specs.Letter.{allLetters?, basesOf}
 use Rattle.bases.proofs.LetterLaws.{bases-length}
 use Rattle.bases.proofs.TestLaws.{of-true, both, neither}
@@ -71,7 +72,7 @@ module _ (reference t : List ℕ) (a : ℕ) (inside : a < length t) (line : Reco
       go false h = absurd (omega arith)
 
   allele-long : (k : ℕ) → k ≤ altCount (field 4 (lineAt t a)) → length (alleleOf reference t (entryOf (lineAt t a) a) k) ≡ lenOf (entryOf (lineAt t a) a) k
-  allele-long zero h = part-size reference (startOf (entryOf (lineAt t a) a)) (entryOf (lineAt t a) a .reference .len) (line .within)
+  allele-long zero h = part-size reference (startOf (entryOf (lineAt t a) a) .0) (entryOf (lineAt t a) a .reference .len) (line .within)
   allele-long (suc zero) h =
       part-size t (entryOf (lineAt t a) a .first .at) (entryOf (lineAt t a) a .first .len) (first-within t a (omega arith) (line .ten))
   allele-long (suc (suc k)) h =
@@ -133,19 +134,19 @@ module _ (reference name t : List ℕ) where
   pub entries-sound : (a : ℕ) → RecordsFrom reference name t a → All (Sound reference t) (entriesAt t a)
   entries-sound a r = entries-all (Sound reference t) (entry-sound reference t) a r
 
-  entries-above : (records last a m : ℕ) (ls : List (List ℕ)) → Records reference name records last ls → m ≤ last
+  entries-above : (records : ℕ) (last : Pos) (a m : ℕ) (ls : List (List ℕ)) → Records reference name records last ls → m ≤ last .0
       → All (λ (e : Entry). m ≤ e .pos .0) (entriesFrom a ls)
   unfolding entriesFrom
   entries-above records last a m [] r h = tt
   entries-above records last a m (l ∷ ls) r h =
-      let k = ltb-false (posOn l) last (r .0 .1 .1 .1 .1 .1 .1 .1 .1 .1 .1 .1 .0) in
+      let k = ltb-false (posOn l .0) (last .0) (r .0 .1 .1 .1 .1 .1 .1 .1 .1 .1 .1 .1 .0) in
       (omega arith, entries-above (records + 1) (posOn l) (a + length l + 1) m ls (r .1) (omega arith))
 
-  lines-sorted : (records last a : ℕ) (ls : List (List ℕ)) → Records reference name records last ls → SortedBy (λ (e : Entry). e .pos .0) (entriesFrom a ls)
+  lines-sorted : (records : ℕ) (last : Pos) (a : ℕ) (ls : List (List ℕ)) → Records reference name records last ls → SortedBy (λ (e : Entry). e .pos .0) (entriesFrom a ls)
   unfolding entriesFrom
   lines-sorted records last a [] r = tt
   lines-sorted records last a (l ∷ ls) r =
-      (entries-above (records + 1) (posOn l) (a + length l + 1) (posOn l) ls (r .1) (omega arith), lines-sorted (records + 1) (posOn l) (a + length l + 1) ls (r .1))
+      (entries-above (records + 1) (posOn l) (a + length l + 1) (posOn l .0) ls (r .1) (omega arith), lines-sorted (records + 1) (posOn l) (a + length l + 1) ls (r .1))
 
   pub entries-sorted : (a : ℕ) → RecordsFrom reference name t a → SortedBy (λ (e : Entry). e .pos .0) (entriesAt t a)
   entries-sorted a r = lines-sorted (r .records) (r .last) a (linesOf (drop a t)) (r .clear)

@@ -31,7 +31,7 @@ use Rattle.clusters.proofs.RowLaws.{row-sound, table-row, table-variant
 
 -- An entry lies in a stretch.
 abbrev Lies : Stretch → Item → Type 0
-Lies s i = (s .from ≤ startOf (i .entry)) × (startOf (i .entry) + i .entry .reference .len ≤ s .to)
+Lies s i = (s .from ≤ startOf (i .entry) .0) × (startOf (i .entry) .0 + i .entry .reference .len ≤ s .to)
 
 pub stretch-covers : (s : Stretch) (is : List Item) → (stretchWith s is .from ≤ s .from) × (s .to ≤ stretchWith s is .to) × All (Lies (stretchWith s is)) is
 unfolding stretchWith
@@ -40,7 +40,7 @@ stretch-covers s (i ∷ is) =
     let c = stretch-covers (widened s (rowOf i)) is in
     (omega arith, omega arith, ((omega arith, omega arith), c .2))
 
-pub stretch-inside : (m : ℕ) (s : Stretch) (is : List Item) → s .to ≤ m → All (λ (i : Item). startOf (i .entry) + i .entry .reference .len ≤ m) is → stretchWith s is .to ≤ m
+pub stretch-inside : (m : ℕ) (s : Stretch) (is : List Item) → s .to ≤ m → All (λ (i : Item). startOf (i .entry) .0 + i .entry .reference .len ≤ m) is → stretchWith s is .to ≤ m
 unfolding stretchWith
 stretch-inside m s [] h a = h
 stretch-inside m s (i ∷ is) h a = stretch-inside m (widened s (rowOf i)) is (omega arith) (a .1)

@@ -12,6 +12,7 @@ use mathlib.Core.Path.{_≡_, ap, _∙_}
 use Prim.Native.Nat.{ℕ, _+_, _*_, _≤_}
 use native.Mathlib.Omega.{arith}
 use lib.ListN.{length}
+use Rattle.bases.specs.declared.place.Place.{Place}
 use Rattle.bases.specs.Letter.{basesOf}
 use Rattle.donors.specs.Choice.{Variant, cardRules}
 use Rattle.donors.specs.Items.{only}
@@ -33,13 +34,13 @@ only-le : (t : Bool) (n : ℕ) → only t n ≤ n
 only-le true n = omega arith
 only-le false n = omega arith
 
-pub size-made : (i : Item) (start shrink grow : ℕ) → start ≡ startOf (i .entry) → shrink ≡ itemSize i .shrink → grow ≡ itemSize i .grow
-    → record { side = i .side; start = start; end = start + i .entry .reference .len; shrink = shrink; grow = grow } ≡ itemSize i
+pub size-made : (i : Item) (start : Place) (shrink grow : ℕ) → start ≡ startOf (i .entry) → shrink ≡ itemSize i .shrink → grow ≡ itemSize i .grow
+    → record { side = i .side; start = start; end = record { 0 = start .0 + i .entry .reference .len }; shrink = shrink; grow = grow } ≡ itemSize i
 size-made i start shrink grow e f g = rw (e, f, g)
 
 -- What is kept of a cluster of n entries.
 pub record Kept (reference : List ℕ) (n : ℕ) (c : Current) : Type 0 where
-  pub inside : c .b ≤ length reference
+  pub inside : c .b .0 ≤ length reference
   pub small1 : (c .a1 ≤ longestAllele * n) × (c .b1 ≤ longestAllele * n)
   pub small2 : (c .a2 ≤ longestAllele * n) × (c .b2 ≤ longestAllele * n)
 
@@ -47,7 +48,7 @@ module _ (reference first second : List ℕ) (i : Item) (s : SoundItem reference
   pub item-size : sizeOf cardRules (variant reference first second i) ≡ itemSize i
   item-size = cc (s .long0, s .long1)
 
-  pub size-small : (itemSize i .end ≤ length reference) × (itemSize i .shrink ≤ longestAllele) × (itemSize i .grow ≤ longestAllele)
+  pub size-small : (itemSize i .end .0 ≤ length reference) × (itemSize i .shrink ≤ longestAllele) × (itemSize i .grow ≤ longestAllele)
   size-small = (s .within, omega (arith, s .short), omega (arith, s .short0, s .short1))
 
   pub kept-more : (n : ℕ) (c : Current) → Kept reference n c → Kept reference (n + 1) (more c (itemSize i))

@@ -6,6 +6,7 @@ use mathlib.Core.Bool.{Bool, Bool·beq, not, _&&_, _||_}
 use mathlib.Core.List.{List}
 use Prim.Native.Nat.{ℕ, _+_, _-_, _^_, _<_, max}
 use lib.Dec.{eqb, leb, ltb}
+use Rattle.bases.specs.declared.place.Place.{Place}
 use Rattle.bases.specs.Period.{anyPeriod?}
 use Rattle.donors.specs.Donor.{part}
 use Rattle.donors.specs.Items.{only}
@@ -17,8 +18,8 @@ use Rattle.clusters.specs.declared.gap.Current.{Current}
 abbrev pub sizeOf : {X C H : Type 0} → Rules X C H → X → Size
 sizeOf 𝓡 x = record {
   side = 𝓡 .side x;
-  start = 𝓡 .start x;
-  end = 𝓡 .start x + 𝓡 .len x;
+  start = record { 0 = 𝓡 .start x };
+  end = record { 0 = 𝓡 .start x + 𝓡 .len x };
   shrink = 𝓡 .shrink x;
   grow = 𝓡 .grow x;
 }
@@ -26,7 +27,7 @@ sizeOf 𝓡 x = record {
 -- One item more in the current cluster.
 abbrev pub more : Current → Size → Current
 more c z = record {
-  b = max (c .b) (z .end);
+  b = record { 0 = max (c .b .0) (z .end .0) };
   a1 = c .a1 + only (Bool·beq list1 (z .side)) (z .shrink);
   b1 = c .b1 + only (Bool·beq list1 (z .side)) (z .grow);
   a2 = c .a2 + only (Bool·beq list2 (z .side)) (z .shrink);
@@ -39,7 +40,7 @@ Adds c z = (c .a1 + z .shrink < 2 ^ 64) × (c .b1 + z .grow < 2 ^ 64) × (c .a2 
 
 -- No item yet.
 abbrev pub nothing : Current
-nothing = record { b = 0; a1 = 0; b1 = 0; a2 = 0; b2 = 0 }
+nothing = record { b = record { 0 = 0 }; a1 = 0; b1 = 0; a2 = 0; b2 = 0 }
 
 -- A cluster begins with this item.
 abbrev pub begin : Size → Current
@@ -50,9 +51,9 @@ abbrev pub reachOf : Current → ℕ
 reachOf c = max (c .b1 + c .a2) (c .b2 + c .a1)
 
 -- Behind b up to p the reference allows a cut, where the lists' donors can be g apart.
-abbrev pub gapCuts? : List ℕ → ℕ → ℕ → ℕ → Bool
-gapCuts? R g b p = eqb g 0 || (ltb g (p - b) && not (anyPeriod? g (part R b p)))
+abbrev pub gapCuts? : List ℕ → ℕ → Place → Place → Bool
+gapCuts? R g b p = eqb g 0 || (ltb g (p .0 - b .0) && not (anyPeriod? g (part R (b .0) (p .0))))
 
 -- The current cluster is cut before an item that starts at p.
-abbrev pub cut? : List ℕ → Current → ℕ → Bool
-cut? R c p = leb (c .b) p && gapCuts? R (reachOf c) (c .b) p
+abbrev pub cut? : List ℕ → Current → Place → Bool
+cut? R c p = leb (c .b .0) (p .0) && gapCuts? R (reachOf c) (c .b) p

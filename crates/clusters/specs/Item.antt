@@ -6,6 +6,7 @@ use mathlib.Core.Path.{_≡_}
 use Prim.Native.Nat.{ℕ, zero, suc, _+_, _-_, _≤_, max, min}
 use lib.ListN.{length}
 use Rattle.bases.specs.Letter.{basesOf}
+use Rattle.bases.specs.declared.place.Place.{Place}
 use Rattle.bases.specs.Place.{placeOf}
 use Rattle.donors.specs.Choice.{Variant}
 use Rattle.vcf.specs.declared.entry.Entry.{Entry}
@@ -21,19 +22,19 @@ named (suc zero) ref first second = first
 named (suc (suc k)) ref first second = second
 
 -- Where REF starts.
-abbrev pub startOf : Entry → ℕ
-startOf e = placeOf (e .pos) .0
+abbrev pub startOf : Entry → Place
+startOf e = placeOf (e .pos)
 
 -- The bases of allele k: REF as a part of the reference, an ALT as a part of the list's text.
 abbrev pub alleleOf : List ℕ → List ℕ → Entry → ℕ → List ℕ
 alleleOf reference text e k =
-    basesOf (named k (bytesOf reference (part (startOf e) (e .reference .len))) (bytesOf text (e .first)) (bytesOf text (e .second)))
+    basesOf (named k (bytesOf reference (part (startOf e .0) (e .reference .len))) (bytesOf text (e .first)) (bytesOf text (e .second)))
 
 -- The entry as matching reads it: its list, where REF starts, how long REF is, and the alleles that its copies' numbers name.
 abbrev pub variantOf : List ℕ → List ℕ → Bool → Entry → Variant
 variantOf reference text side e = record {
   side = side;
-  start = startOf e;
+  start = startOf e .0;
   len = e .reference .len;
   allele0 = alleleOf reference text e (e .copy0);
   allele1 = alleleOf reference text e (e .copy1);
@@ -59,7 +60,7 @@ itemSize i =
     record {
       side = i .side;
       start = startOf e;
-      end = startOf e + e .reference .len;
+      end = record { 0 = startOf e .0 + e .reference .len };
       shrink = e .reference .len - min (lenOf e (e .copy0)) (lenOf e (e .copy1));
       grow = max (lenOf e (e .copy0)) (lenOf e (e .copy1)) - e .reference .len;
     }
@@ -69,7 +70,7 @@ itemSize i =
 pub record Sound (reference text : List ℕ) (e : Entry) : Type 0 where
   pub pos : 1 ≤ e .pos .0
   pub some : 1 ≤ e .reference .len
-  pub within : startOf e + e .reference .len ≤ length reference
+  pub within : startOf e .0 + e .reference .len ≤ length reference
   pub short : e .reference .len ≤ longestAllele
   pub long0 : length (alleleOf reference text e (e .copy0)) ≡ lenOf e (e .copy0)
   pub long1 : length (alleleOf reference text e (e .copy1)) ≡ lenOf e (e .copy1)

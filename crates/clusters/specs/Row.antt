@@ -19,13 +19,13 @@ inText p = record { text = true; at = p .at; len = p .len }
 
 -- Where the bytes of allele k stand: those of REF in the reference, those of an ALT in the list's text.
 abbrev pub standOf : Entry → ℕ → Allele
-standOf e k = named k (record { text = false; at = startOf e; len = e .reference .len }) (inText (e .first)) (inText (e .second))
+standOf e k = named k (record { text = false; at = startOf e .0; len = e .reference .len }) (inText (e .first)) (inText (e .second))
 
 -- The row of an entry.
 abbrev pub rowOf : Item → Row
 rowOf i =
     let e = i .entry in
-    record { first = i .side; start = startOf e; len = e .reference .len; copy0 = standOf e (e .copy0); copy1 = standOf e (e .copy1) }
+    record { first = i .side; start = startOf e .0; len = e .reference .len; copy0 = standOf e (e .copy0); copy1 = standOf e (e .copy1) }
 
 -- A row as numbers: its list is 1 or 2, and an allele is in the list's text where its first number is 1.
 abbrev pub numbersOf : Row → List ℕ

@@ -5,19 +5,20 @@ ghost use lib.ListN.{length};
 ghost use Rattle.bases.specs.Letter.{basesOf};
 ghost use Rattle.clusters.specs.Gap.{more, Adds, begin, reachOf, cut?};
 use bases::period::has_any_period;
+use bases::place::Place;
 
 // What the rule reads of an entry: is it of list 1, where its span starts and ends, and by how much its alleles are shorter or longer than REF.
 pub struct Size {
     pub side: bool,
-    pub start: usize,
-    pub end: usize,
+    pub start: Place,
+    pub end: Place,
     pub shrink: usize,
     pub grow: usize,
 }
 
 // What is kept of the current cluster, in document 01's letters: b, the largest end, and the sums A_1, B_1, A_2 and B_2.
 pub struct Current {
-    pub b: usize,
+    pub b: Place,
     pub a1: usize,
     pub b1: usize,
     pub a2: usize,
@@ -29,11 +30,9 @@ pub fn more(current: Current, size: Size) -> Current
     requires { ⌜ Adds current size ⌝ }
     ensures { λ r. ⌜ r ≡ more current size ⌝ }
 {
-    let b = if current.b < size.end {
-        size.end
-    } else {
-        current.b
-    };
+    let largest = current.b;
+    let end = size.end;
+    let b = if largest.0 < end.0 { end } else { largest };
     if size.side {
         return Current {
             b,
@@ -57,7 +56,7 @@ pub fn begin(size: Size) -> Current
     ensures { λ r. ⌜ r ≡ begin size ⌝ }
 {
     let nothing = Current {
-        b: 0,
+        b: Place(0),
         a1: 0,
         b1: 0,
         a2: 0,
@@ -77,14 +76,16 @@ fn reach_of(current: Current) -> usize
 }
 
 // Is the current cluster cut before an entry that starts at `start`? A gap no longer than g has the period g, and where g is 0 no period is asked for.
-pub fn is_cut(reference: &[u8], current: Current, start: usize) -> bool
-    requires { ⌜ (start ≤ length (now reference)) × (current .b1 + current .a2 < 2 ^ 64) × (current .b2 + current .a1 < 2 ^ 64) ⌝ }
+pub fn is_cut(reference: &[u8], current: Current, start: Place) -> bool
+    requires { ⌜ (start .0 ≤ length (now reference)) × (current .b1 + current .a2 < 2 ^ 64) × (current .b2 + current .a1 < 2 ^ 64) ⌝ }
     ensures { λ r. ⌜ r ≡ cut? (basesOf (now (reference .entry))) current start ⌝ }
 {
     let b = current.b;
-    if start < b {
+    let from = b.0;
+    let to = start.0;
+    if to < from {
         return false;
     }
     let g = reach_of(current);
-    !has_any_period(&reference[b..start], g)
+    !has_any_period(&reference[from..to], g)
 }

@@ -3,6 +3,7 @@ ghost use mathlib.Core.Path.{_≡_};
 ghost use Prim.Native.Nat.{_+_, _-_, _≤_, _<_, _^_};
 ghost use Rattle.clusters.specs.Item.{startOf, lenOf, itemSize};
 use crate::gap::Size;
+use bases::place::Place;
 use bases::place::place_of;
 use vcf::entry::Entry;
 
@@ -35,13 +36,12 @@ fn excess(a: usize, b: usize) -> usize
 
 // What the gap rule reads of an entry. Its POS is one, and its span ends where a number can say it.
 pub fn size_of(item: Item) -> Size
-    requires { ⌜ (1 ≤ item .entry .pos .0) × (startOf (item .entry) + item .entry .reference .len < 2 ^ 64) ⌝ }
+    requires { ⌜ (1 ≤ item .entry .pos .0) × (startOf (item .entry) .0 + item .entry .reference .len < 2 ^ 64) ⌝ }
     ensures { λ r. ⌜ r ≡ itemSize item ⌝ }
 {
     let entry = item.entry;
     let pos = entry.pos;
-    let place = place_of(pos);
-    let start = place.0;
+    let start = place_of(pos);
     let span = entry.reference;
     let len = span.len;
     let len0 = length_of(entry, entry.copy0);
@@ -51,7 +51,7 @@ pub fn size_of(item: Item) -> Size
     Size {
         side: item.side,
         start,
-        end: start + len,
+        end: Place(start.0 + len),
         shrink: excess(len, shorter),
         grow: excess(longer, len),
     }

@@ -12,6 +12,7 @@ use crate::heads::Heads;
 use crate::heads::after;
 use crate::heads::next_item;
 use crate::item::Item;
+use bases::place::Place;
 use bases::place::place_of;
 use donors::table::Allele;
 use donors::table::Row;
@@ -25,7 +26,7 @@ pub struct Stretch {
 }
 
 // Where the bytes of allele k stand, of an entry that starts at `start`.
-fn stand_of(entry: Entry, start: usize, k: usize) -> Allele
+fn stand_of(entry: Entry, start: Place, k: usize) -> Allele
     requires { ⌜ start ≡ startOf entry ⌝ }
     ensures { λ r. ⌜ r ≡ standOf entry k ⌝ }
 {
@@ -33,7 +34,7 @@ fn stand_of(entry: Entry, start: usize, k: usize) -> Allele
         let bases = entry.reference;
         return Allele {
             text: false,
-            at: start,
+            at: start.0,
             len: bases.len,
         };
     }
@@ -52,12 +53,11 @@ fn row_of(item: Item) -> Row
 {
     let entry = item.entry;
     let pos = entry.pos;
-    let place = place_of(pos);
-    let start = place.0;
+    let start = place_of(pos);
     let bases = entry.reference;
     Row {
         first: item.side,
-        start,
+        start: start.0,
         len: bases.len,
         copy0: stand_of(entry, start, entry.copy0),
         copy1: stand_of(entry, start, entry.copy1),

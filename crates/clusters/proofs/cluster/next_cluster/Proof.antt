@@ -85,7 +85,7 @@ is-cut-requires c κs =
     let d : done? t1 t2 k ≡ false = sym (c .before .before .before .is-done .ensures) ∙ not-true _ (c .before .before .if1 .taken) in
     let s = next-sound r t1 t2 k (w .ready) d in
     let e : c .size-of2 .result ≡ itemSize (nextItem t1 t2 k) = c .size-of2 .ensures ∙ ap itemSize (c .before .next-item2 .ensures) in
-    (omega (arith, s .within, ap (λ (z : Size). z .start) e), omega (arith, w .few, w .kept .small1, w .kept .small2, w .ready .ready1 .short, w .ready .ready2 .short), omega (arith, w .few, w .kept .small1, w .kept .small2, w .ready .ready1 .short, w .ready .ready2 .short))
+    (omega (arith, s .within, ap (λ (z : Size). z .start .0) e), omega (arith, w .few, w .kept .small1, w .kept .small2, w .ready .ready1 .short, w .ready .ready2 .short), omega (arith, w .few, w .kept .small1, w .kept .small2, w .ready .ready1 .short, w .ready .ready2 .short))
 
 returns : tie.Need-returns Inv-loop μ-loop
 returns c =

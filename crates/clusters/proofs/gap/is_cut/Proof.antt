@@ -8,7 +8,7 @@ use Rattle.clusters.proofs.gap.is_cut.Statement.{statement}
 use Rattle.clusters.proofs.gap.is_cut.Tie as tie
 
 returns : tie.Need-returns
-returns c = sym (cut-behind (basesOf (c .before .before .args .reference .now)) (c .before .before .args .current) (c .before .before .args .start) (c .if1 .taken))
+returns c = sym (cut-behind (basesOf (c .before .before .before .args .reference .now)) (c .before .before .before .args .current) (c .before .before .before .args .start) (c .if1 .taken))
 
 reach-of-requires : tie.Need-reach-of-requires
 reach-of-requires c κs = search needs
@@ -24,9 +24,9 @@ has-any-period-requires c κs = search needs
 
 returns-2 : tie.Need-returns-2
 returns-2 c =
-    let r = c .before .before .before .before .before .args .reference .now in
-    let cur = c .before .before .before .before .before .args .current in
-    let p = c .before .before .before .before .before .args .start in
+    let r = c .before .before .before .before .before .before .args .reference .now in
+    let cur = c .before .before .before .before .before .before .args .current in
+    let p = c .before .before .before .before .before .before .args .start in
     cut-read r cur p (omega arith) (omega arith) (c .before .before .reach-of .ensures) (c .has-any-period .ensures)
 
 pub is-cut-spec : {M : Type 1} → statement M

@@ -19,8 +19,8 @@ length-of-requires c κs = search needs
 length-of-requires-2 : tie.Need-length-of-requires-2
 length-of-requires-2 c κs = search needs
 
-add-t15 : tie.Need-add-t15
-add-t15 c = omega (arith, ap (λ (p : Place). p .0) (c .before .before .before .before .before .place-of .ensures))
+add-t14 : tie.Need-add-t14
+add-t14 c = omega (arith, ap (λ (p : Place). p .0) (c .before .before .before .before .before .before .place-of .ensures))
 
 excess-requires : tie.Need-excess-requires
 excess-requires c κs = search needs
@@ -30,12 +30,12 @@ excess-requires-2 c κs = search needs
 
 returns : tie.Need-returns
 returns c =
-    let i = c .before .before .before .before .before .before .before .before .before .before .args .item in
+    let i = c .before .before .before .before .before .before .before .before .before .before .before .args .item in
     let e = i .entry in
     let n = e .reference .len in
-    let s : c .before .before .before .if1 .shorter ≡ min (lenOf e (e .copy0)) (lenOf e (e .copy1)) = ⊎-elim (λ w. omega arith) (λ w. omega arith) (c .before .before .before .if1 .came) in
-    let l : c .before .before .if2 .longer ≡ max (lenOf e (e .copy0)) (lenOf e (e .copy1)) = ⊎-elim (λ w. omega arith) (λ w. omega arith) (c .before .before .if2 .came) in
-    size-made i (c .before .before .before .before .before .before .before .place-of .result .0) (c .before .excess .result) (c .excess2 .result) (ap (λ (p : Place). p .0) (c .before .before .before .before .before .before .before .place-of .ensures))
+    let s : c .before .before .before .before .if1 .shorter ≡ min (lenOf e (e .copy0)) (lenOf e (e .copy1)) = ⊎-elim (λ w. omega arith) (λ w. omega arith) (c .before .before .before .before .if1 .came) in
+    let l : c .before .before .before .if2 .longer ≡ max (lenOf e (e .copy0)) (lenOf e (e .copy1)) = ⊎-elim (λ w. omega arith) (λ w. omega arith) (c .before .before .before .if2 .came) in
+    size-made i (c .before .before .before .before .before .before .before .before .place-of .result) (c .before .excess .result) (c .excess2 .result) (c .before .before .before .before .before .before .before .before .place-of .ensures)
     (c .before .excess .ensures ∙ ap (λ (m : ℕ). n - m) s) (c .excess2 .ensures ∙ ap (λ (m : ℕ). m - n) l)
 
 pub size-of-spec : {M : Type 1} → statement M
@@ -45,7 +45,7 @@ size-of-spec =
     place-of-requires
     length-of-requires
     length-of-requires-2
-    add-t15
+    add-t14
     excess-requires
     excess-requires-2
     returns)
