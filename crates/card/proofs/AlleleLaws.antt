@@ -16,13 +16,14 @@ use mathlib.Core.Bool.{Bool, true, false, _&&_}
 use mathlib.Core.List.{List, []}
 use mathlib.Core.Logic.{_↔_, _≢_, _⊎_, inl, inr, ⊎-elim}
 use mathlib.Core.Path.{_≡_, refl, sym, ap, _∙_}
-use Prim.Native.Nat.{ℕ, _+_, _-_, _≤_}
+use Prim.Native.Nat.{ℕ, _+_, _≤_}
 use native.Mathlib.Decide.{ℕ-discrete}
 use native.Mathlib.Omega.{arith}
 use borrow.Author.Tests.{eqb-true}
 use lib.Dec.{T, eqb, leb, leb→le}
 use lib.ListN.{length, take, drop, length-drop}
 use lib.Seq.{length-take-le}
+use Rattle.bases.specs.Place.{placeOf}
 use Rattle.bases.specs.Letter.{allLetters?, basesOf}
 use Rattle.bases.proofs.ReferenceLaws.{reference-iff}
 use Rattle.bases.proofs.TestLaws.{both}
@@ -57,7 +58,7 @@ module _ (reference name text : List ℕ) (i k : ℕ) where
   shown-of-refusal : (e : Entry) → shownOf e k .refusal ≡ noRefusal
   shown-of-refusal e = go (eqb k 0) (eqb k 1)
     where
-      go : (s t : Bool) → pick s (ofReference (e .pos .0 - 1) (e .reference .len)) (pick t (ofText (e .first .at) (e .first .len)) (ofText (e .second .at) (e .second .len))) .refusal ≡ noRefusal
+      go : (s t : Bool) → pick s (ofReference (placeOf (e .pos)) (e .reference .len)) (pick t (ofText (e .first .at) (e .first .len)) (ofText (e .second .at) (e .second .len))) .refusal ≡ noRefusal
       go true t = refl
       go false true = refl
       go false false = refl
@@ -107,7 +108,7 @@ module _ (reference name text : List ℕ) (i k : ℕ) where
         go true h (no n) (no m) = inr (inr (omega arith))
         go false h (no n) (no m) = absurd (omega arith)
 
-    shown-zero : k ≡ 0 → shown reference name text i k ≡ ofReference (posOn line - 1) (length (field 3 line))
+    shown-zero : k ≡ 0 → shown reference name text i k ≡ ofReference (placeOf (posOn line)) (length (field 3 line))
     shown-zero e = a .shows ∙ rw e
 
     shown-one : k ≡ 1 → shown reference name text i k ≡ ofText (entryOf line (recordAt text i) .first .at) (entryOf line (recordAt text i) .first .len)
@@ -116,7 +117,7 @@ module _ (reference name text : List ℕ) (i k : ℕ) where
     shown-two : k ≡ 2 → shown reference name text i k ≡ ofText (entryOf line (recordAt text i) .second .at) (entryOf line (recordAt text i) .second .len)
     shown-two e = a .shows ∙ rw e
 
-    pub reference-shown : k ≡ 0 → bytesShown reference text (shown reference name text i k) ≡ take (length (field 3 line)) (drop (posOn line - 1) reference)
+    pub reference-shown : k ≡ 0 → bytesShown reference text (shown reference name text i k) ≡ take (length (field 3 line)) (drop (placeOf (posOn line) .0) reference)
     reference-shown e = ap (bytesShown reference text) (shown-zero e)
 
     pub reference-same : k ≡ 0 → basesOf (bytesShown reference text (shown reference name text i k)) ≡ basesOf (field 3 line)
@@ -129,7 +130,7 @@ module _ (reference name text : List ℕ) (i k : ℕ) where
     second-shown e = ap (bytesShown reference text) (shown-two e) ∙ second-bytes text (recordAt text i) inside (a .line .ten) (two e)
 
     module _ (r t : ℕ × ℕ) where
-      pub reference-begins : k ≡ 0 → ptrShown r t (shown reference name text i k) ≡ (r .0, posOn line - 1 + r .1)
+      pub reference-begins : k ≡ 0 → ptrShown r t (shown reference name text i k) ≡ (r .0, placeOf (posOn line) .0 + r .1)
       reference-begins e = ap (ptrShown r t) (shown-zero e)
 
       pub first-begins : k ≡ 1 → ptrShown r t (shown reference name text i k) ≡ (t .0, recordAt text i + fieldAt 4 line + t .1)
@@ -148,7 +149,7 @@ module _ (reference name text : List ℕ) (i k : ℕ) where
 
     there-some : 1 ≤ length (bytesShown reference text (shown reference name text i k))
     there-some = ⊎-elim
-        (λ e. rw (reference-shown e, length-take-le (length (field 3 line)) (drop (posOn line - 1) reference) (rw length-drop (omega (arith, a .line .within)))) (allele-some (field 3 line) (a .line .ref)))
+        (λ e. rw (reference-shown e, length-take-le (length (field 3 line)) (drop (placeOf (posOn line) .0) reference) (rw length-drop (omega (arith, a .line .within)))) (allele-some (field 3 line) (a .line .ref)))
         (⊎-elim
         (λ e. rw (first-shown e) (allele-some (firstAlt (field 4 line)) (first-allele (field 3 line) (field 4 line) (a .line .alts))))
         (λ e. rw (second-shown e) (allele-some (secondAlt (field 4 line)) (second-allele (field 3 line) (field 4 line) (a .line .alts) (two e)))))

@@ -3,10 +3,12 @@
 -- Assumes nothing: these are definitions.
 use mathlib.Core.Bool.{Bool, true, false, _||_}
 use mathlib.Core.List.{List, [], _∷_}
-use Prim.Native.Nat.{ℕ, _+_, _-_}
+use Prim.Native.Nat.{ℕ, _+_}
 use lib.Dec.{eqb, leb, ltb}
 use lib.ListN.{length, getD}
 use Rattle.bases.specs.Pick.{pick}
+use Rattle.bases.specs.declared.place.Place.{Place}
+use Rattle.bases.specs.Place.{placeOf}
 use Rattle.vcf.specs.declared.entry.Entry.{Entry}
 use Rattle.vcf.specs.declared.entry.Part.{Part}
 use Rattle.vcf.specs.Entry.{part, bytesOf, entryOf, entriesOf}
@@ -32,8 +34,8 @@ alleleRefusal reference name text i k =
     firstRefusal (referenceCheck reference ∷ listCheck 1 reference name text ∷ check (noAllele? text i k) (refusal 18 0 0) ∷ [])
 
 -- A part of the reference; a part of the text.
-abbrev pub ofReference : ℕ → ℕ → Shown
-ofReference at len = record { refusal = noRefusal; text = false; part = part at len }
+abbrev pub ofReference : Place → ℕ → Shown
+ofReference place len = record { refusal = noRefusal; text = false; part = part (place .0) len }
 
 abbrev pub ofText : ℕ → ℕ → Shown
 ofText at len = record { refusal = noRefusal; text = true; part = part at len }
@@ -41,7 +43,7 @@ ofText at len = record { refusal = noRefusal; text = true; part = part at len }
 -- Where allele k of an entry stands.
 abbrev pub shownOf : Entry → ℕ → Shown
 shownOf e k =
-    pick (eqb k 0) (ofReference (e .pos .0 - 1) (e .reference .len))
+    pick (eqb k 0) (ofReference (placeOf (e .pos)) (e .reference .len))
     (pick (eqb k 1) (ofText (e .first .at) (e .first .len)) (ofText (e .second .at) (e .second .len)))
 
 abbrev pub refusedShown : Refusal → Shown
