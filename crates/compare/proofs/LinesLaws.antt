@@ -17,7 +17,6 @@ use Rattle.bases.specs.Put.{put}
 use Rattle.clusters.specs.declared.heads.Heads.{Heads}
 use Rattle.clusters.specs.declared.item.Item.{Item}
 use Rattle.clusters.specs.Heads.{Readable, itemsFrom, done?, nextItem, moved, passed}
-use Rattle.clusters.specs.Merged.{posOf}
 use Rattle.clusters.proofs.HeadsLaws.{items-some, items-step, readable-moved, passed-next}
 use Rattle.lines.proofs.WroteLaws.{Wrote, Left, left-begin, left-then, left-end}
 use Rattle.compare.specs.Printed.{entryLine, entryLines, lineMost}
@@ -31,19 +30,19 @@ lines-few (k ∷ ks) (i ∷ is) [] = omega arith
 lines-few (k ∷ ks) (i ∷ is) (m ∷ ms) =
     omega (
       arith,
-      length-append (entryLine (i .side) (posOf i) k m) (entryLines ks is ms),
-      line-few (i .side) (posOf i) k m,
+      length-append (entryLine (i .side) (i .entry .pos) k m) (entryLines ks is ms),
+      line-few (i .side) (i .entry .pos) k m,
       lines-few ks is ms,
     )
 
 lines-cons : (k : ℕ) (ks : List ℕ) (i : Item) (is : List Item) (m : ℕ) (ms : List ℕ)
-    → entryLines (k ∷ ks) (i ∷ is) (m ∷ ms) ≡ entryLine (i .side) (posOf i) k m ++ entryLines ks is ms
+    → entryLines (k ∷ ks) (i ∷ is) (m ∷ ms) ≡ entryLine (i .side) (i .entry .pos) k m ++ entryLines ks is ms
 unfolding entryLines
 lines-cons k ks i is m ms = refl
 
 pub lines-next : (n cluster : ℕ) (i : Item) (is : List Item) (ms : List ℕ) (j : ℕ) → j < length ms
     → entryLines (replicate (suc n) cluster) (i ∷ is) (drop j ms)
-    ≡ entryLine (i .side) (posOf i) cluster (getD ms j 0) ++ entryLines (replicate n cluster) is (drop (suc j) ms)
+    ≡ entryLine (i .side) (i .entry .pos) cluster (getD ms j 0) ++ entryLines (replicate n cluster) is (drop (suc j) ms)
 lines-next n cluster i is ms j h = rw (drop-cons ms j 0 h) (lines-cons cluster (replicate n cluster) i is (getD ms j 0) (drop (suc j) ms))
 
 pub lines-split : (n k : ℕ) (ks : List ℕ) (is : List Item) (ms : List ℕ) → n ≤ length is → n ≤ length ms
@@ -53,8 +52,8 @@ lines-split zero k ks is ms h l = refl
 lines-split (suc n) k ks [] ms h l = absurd (omega arith)
 lines-split (suc n) k ks (i ∷ is) [] h l = absurd (omega arith)
 lines-split (suc n) k ks (i ∷ is) (m ∷ ms) h l =
-    ap (λ (z : List ℕ). entryLine (i .side) (posOf i) k m ++ z) (lines-split n k ks is ms (omega arith) (omega arith))
-    ∙ sym (append-assoc (entryLine (i .side) (posOf i) k m) (entryLines (replicate n k) is ms) (entryLines ks (drop n is) (drop n ms)))
+    ap (λ (z : List ℕ). entryLine (i .side) (i .entry .pos) k m ++ z) (lines-split n k ks is ms (omega arith) (omega arith))
+    ∙ sym (append-assoc (entryLine (i .side) (i .entry .pos) k m) (entryLines (replicate n k) is ms) (entryLines ks (drop n is) (drop n ms)))
 
 -- What stands behind the marks of the entries is not looked at.
 pub lines-marks : (ks : List ℕ) (is : List Item) (ms more : List ℕ) → length is ≤ length ms → entryLines ks is (ms ++ more) ≡ entryLines ks is ms
@@ -62,7 +61,7 @@ unfolding entryLines
 lines-marks [] is ms more h = refl
 lines-marks (k ∷ ks) [] ms more h = refl
 lines-marks (k ∷ ks) (i ∷ is) [] more h = absurd (omega arith)
-lines-marks (k ∷ ks) (i ∷ is) (m ∷ ms) more h = ap (λ (z : List ℕ). entryLine (i .side) (posOf i) k m ++ z) (lines-marks ks is ms more (omega arith))
+lines-marks (k ∷ ks) (i ∷ is) (m ∷ ms) more h = ap (λ (z : List ℕ). entryLine (i .side) (i .entry .pos) k m ++ z) (lines-marks ks is ms more (omega arith))
 
 -- The lines of the n entries from the cursors on, the first of which is entry j.
 abbrev clusterLines : List ℕ → List ℕ → List ℕ → ℕ → ℕ → Heads → ℕ → List ℕ
@@ -109,7 +108,7 @@ module _ (first second marks : List ℕ) (cluster count i : ℕ) (start : Heads)
       putting-left = items-some first second h (omega (arith, w .few))
 
       pub putting-more : i + count ≤ length marks → (r : ℕ) (e : List ℕ)
-          → Wrote out at (entryLine (nextItem first second h .side) (posOf (nextItem first second h)) cluster (getD marks (i + k) 0)) r e
+          → Wrote out at (entryLine (nextItem first second h .side) (nextItem first second h .entry .pos) cluster (getD marks (i + k) 0)) r e
           → Putting first second marks cluster count i start out₀ at₀ (moved first second h (nextItem first second h .side)) (k + 1) e r
       putting-more fits r e v =
           let s = items-step first second h putting-left in
@@ -117,9 +116,9 @@ module _ (first second marks : List ℕ) (cluster count i : ℕ) (start : Heads)
           let b = moved first second h (x .side) in
           let n : count - k ≡ suc (count - (k + 1)) = omega arith in
           let j : i + (k + 1) ≡ suc (i + k) = omega arith in
-          let line = line-few (x .side) (posOf x) cluster (getD marks (i + k) 0) in
+          let line = line-few (x .side) (x .entry .pos) cluster (getD marks (i + k) 0) in
           let lines : clusterLines first second marks cluster (count - k) h (i + k)
-          ≡ entryLine (x .side) (posOf x) cluster (getD marks (i + k) 0) ++ clusterLines first second marks cluster (count - (k + 1)) b (i + (k + 1)) =
+          ≡ entryLine (x .side) (x .entry .pos) cluster (getD marks (i + k) 0) ++ clusterLines first second marks cluster (count - (k + 1)) b (i + (k + 1)) =
           rw (n, s .split, j) (lines-next (count - (k + 1)) cluster x (itemsFrom first second b) marks (i + k) (omega arith)) in
           record {
             inside = omega arith;

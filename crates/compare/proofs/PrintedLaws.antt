@@ -9,6 +9,7 @@ use mathlib.Core.Path.{_≡_, _∙_}
 use Prim.Native.Nat.{ℕ, _≤_}
 use native.Mathlib.Omega.{arith}
 use lib.ListN.{length, length-append}
+use Rattle.bases.specs.declared.place.Pos.{Pos}
 use Rattle.normal.proofs.DecimalLaws.{decimal-read}
 use Rattle.vcf.specs.Bytes.{LF, TAB}
 use Rattle.vcf.specs.Pos.{readPos}
@@ -18,17 +19,17 @@ use Rattle.lines.proofs.FieldLaws.{number-pos, field-few, fields-few}
 use Rattle.compare.proofs.ReadLaws.{pos-le}
 use Rattle.compare.specs.Printed.{listNumber, entryLine, lineMost, totalWord, totalLine, totalMost}
 
-pub number-read : (f : List ℕ) → 1 ≤ readPos f → number (readPos f) ≡ f
-number-read f h = number-pos (readPos f) (pos-le f) ∙ decimal-read f h
+pub number-read : (f : List ℕ) → 1 ≤ readPos f .0 → number (readPos f .0) ≡ f
+number-read f h = number-pos (readPos f .0) (pos-le f) ∙ decimal-read f h
 
 pub list-number-few : (side : Bool) → listNumber side ≤ 2
 list-number-few true = omega arith
 list-number-few false = omega arith
 
-pub line-few : (side : Bool) (pos cluster mark : ℕ) → length (entryLine side pos cluster mark) ≤ lineMost
+pub line-few : (side : Bool) (pos : Pos) (cluster mark : ℕ) → length (entryLine side pos cluster mark) ≤ lineMost
 line-few side pos cluster mark =
-    let s = fields (listNumber side) pos cluster TAB in
-    omega (arith, length-append (s ++ (mark ∷ [])) (LF ∷ []), length-append s (mark ∷ []), fields-few (listNumber side) pos cluster TAB)
+    let s = fields (listNumber side) (pos .0) cluster TAB in
+    omega (arith, length-append (s ++ (mark ∷ [])) (LF ∷ []), length-append s (mark ∷ []), fields-few (listNumber side) (pos .0) cluster TAB)
 
 pub total-few : (c : Count) (score : ℕ) → length (totalLine c score) ≤ totalMost
 total-few c score =

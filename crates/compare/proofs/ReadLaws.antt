@@ -14,7 +14,7 @@ use Rattle.bases.specs.Pick.{pick}
 use Rattle.clusters.specs.declared.heads.Heads.{Heads}
 use Rattle.clusters.specs.declared.item.Item.{Item}
 use Rattle.clusters.specs.Heads.{Readable, entriesAt, itemsFrom, done?, nextItem, moved, passed}
-use Rattle.clusters.specs.Merged.{posOf, itemOf, itemsOf}
+use Rattle.clusters.specs.Merged.{keyOf, itemOf, itemsOf}
 use Rattle.clusters.proofs.HeadsLaws.{items-some, items-step, readable-moved}
 use Rattle.clusters.proofs.MergedLaws.{all-map, merged-all}
 use Rattle.donors.specs.Apart.{All}
@@ -23,7 +23,7 @@ use Rattle.vcf.specs.declared.entry.Entry.{Entry}
 use Rattle.vcf.specs.Entry.{entriesFrom}
 use Rattle.vcf.specs.Pos.{allDigits?, valueFrom, largestPos, isPos?, readPos}
 
-pub pos-le : (f : List ℕ) → readPos f ≤ largestPos
+pub pos-le : (f : List ℕ) → readPos f .0 ≤ largestPos
 unfolding isPos?
 pos-le f = go (isPos? f) refl
   where
@@ -47,14 +47,14 @@ module _ (first second : List ℕ) where
       let j = nextItem first second h .side in
       readable-passed n (moved first second h j) (readable-moved first second h r j (s .inside)) (omega (arith, ap length (s .split)))
 
-  items-pos : (h : Heads) → All (λ (i : Item). posOf i ≤ largestPos) (itemsFrom first second h)
+  items-pos : (h : Heads) → All (λ (i : Item). i .entry .pos .0 ≤ largestPos) (itemsFrom first second h)
   items-pos h =
-      merged-all posOf (λ (i : Item). posOf i ≤ largestPos) (itemsOf list1 (entriesAt first (h .at1))) (itemsOf list2 (entriesAt second (h .at2)))
-      (all-map (λ (i : Item). posOf i ≤ largestPos) (itemOf list1) (entriesAt first (h .at1)) (entries-pos _ _))
-      (all-map (λ (i : Item). posOf i ≤ largestPos) (itemOf list2) (entriesAt second (h .at2)) (entries-pos _ _))
+      merged-all keyOf (λ (i : Item). i .entry .pos .0 ≤ largestPos) (itemsOf list1 (entriesAt first (h .at1))) (itemsOf list2 (entriesAt second (h .at2)))
+      (all-map (λ (i : Item). i .entry .pos .0 ≤ largestPos) (itemOf list1) (entriesAt first (h .at1)) (entries-pos _ _))
+      (all-map (λ (i : Item). i .entry .pos .0 ≤ largestPos) (itemOf list2) (entriesAt second (h .at2)) (entries-pos _ _))
 
-  pub next-pos : (h : Heads) → done? first second h ≡ false → posOf (nextItem first second h) ≤ largestPos
+  pub next-pos : (h : Heads) → done? first second h ≡ false → nextItem first second h .entry .pos .0 ≤ largestPos
   next-pos h e = go (items-step first second h e .split) (items-pos h)
     where
-      go : {i : Item} {is : List Item} → itemsFrom first second h ≡ i ∷ is → All (λ (i : Item). posOf i ≤ largestPos) (itemsFrom first second h) → posOf i ≤ largestPos
+      go : {i : Item} {is : List Item} → itemsFrom first second h ≡ i ∷ is → All (λ (i : Item). i .entry .pos .0 ≤ largestPos) (itemsFrom first second h) → i .entry .pos .0 ≤ largestPos
       go s u = (rw s at u) .0

@@ -5,11 +5,11 @@ use mathlib.Core.Bool.{Bool, true, false}
 use mathlib.Core.List.{List, [], _∷_, _++_}
 use Prim.Native.Nat.{ℕ, _+_, _*_}
 use lib.ListN.{length, replicate}
+use Rattle.bases.specs.declared.place.Pos.{Pos}
 use Rattle.clusters.specs.declared.count.Count.{Count}
 use Rattle.clusters.specs.declared.item.Item.{Item}
 use Rattle.clusters.specs.declared.plan.Cluster.{Cluster}
 use Rattle.clusters.specs.Counts.{mostEntries, countsOf, totals}
-use Rattle.clusters.specs.Merged.{posOf}
 use Rattle.vcf.specs.Bytes.{LF, TAB}
 use Rattle.lines.specs.Lines.{field, fieldMost, fields, fieldsMost}
 
@@ -29,8 +29,8 @@ listNumber true = 1
 listNumber false = 2
 
 -- The line of an entry.
-abbrev pub entryLine : Bool → ℕ → ℕ → ℕ → List ℕ
-entryLine side pos cluster mark = fields (listNumber side) pos cluster TAB ++ (mark ∷ []) ++ (LF ∷ [])
+abbrev pub entryLine : Bool → Pos → ℕ → ℕ → List ℕ
+entryLine side pos cluster mark = fields (listNumber side) (pos .0) cluster TAB ++ (mark ∷ []) ++ (LF ∷ [])
 
 -- The clusters' numbers, from k on, one an entry.
 unfoldable pub numbersFrom : ℕ → List Cluster → List ℕ
@@ -42,7 +42,7 @@ unfoldable pub entryLines : List ℕ → List Item → List ℕ → List ℕ
 entryLines [] is ms = []
 entryLines (k ∷ ks) [] ms = []
 entryLines (k ∷ ks) (i ∷ is) [] = []
-entryLines (k ∷ ks) (i ∷ is) (m ∷ ms) = entryLine (i .side) (posOf i) k m ++ entryLines ks is ms
+entryLines (k ∷ ks) (i ∷ is) (m ∷ ms) = entryLine (i .side) (i .entry .pos) k m ++ entryLines ks is ms
 
 -- The total line: the totals and the score.
 abbrev pub totalLine : Count → ℕ → List ℕ

@@ -6,6 +6,7 @@ ghost use Rattle.bases.specs.Put.{put};
 ghost use Rattle.clusters.specs.Counts.{Few};
 ghost use Rattle.lines.specs.Lines.{largestNumber};
 ghost use Rattle.compare.specs.Printed.{heading, listNumber, entryLine, lineMost, totalLine, totalMost};
+use bases::place::Pos;
 use bases::put::put_byte;
 use bases::put::put_bytes;
 use clusters::count::Count;
@@ -30,18 +31,11 @@ fn list_number(side: bool) -> usize
 }
 
 // Writes the line of an entry: list, POS, cluster, mark.
-pub fn put_entry(
-    side: bool,
-    pos: usize,
-    cluster: usize,
-    mark: u8,
-    out: &mut [u8],
-    at: usize,
-) -> usize
-    requires { ⌜ (pos ≤ largestNumber) × (cluster ≤ largestNumber) × (at + lineMost ≤ length (now out)) ⌝ }
+pub fn put_entry(side: bool, pos: Pos, cluster: usize, mark: u8, out: &mut [u8], at: usize) -> usize
+    requires { ⌜ (pos .0 ≤ largestNumber) × (cluster ≤ largestNumber) × (at + lineMost ≤ length (now out)) ⌝ }
     ensures { λ r. ⌜ (r ≡ at + length (entryLine side pos cluster mark)) × (now (out .exit) ≡ put (now (out .entry)) at (entryLine side pos cluster mark)) ⌝ }
 {
-    let a = put_fields(list_number(side), pos, cluster, TAB, out, at);
+    let a = put_fields(list_number(side), pos.0, cluster, TAB, out, at);
     let b = put_byte(mark, out, a);
     put_byte(LF, out, b)
 }

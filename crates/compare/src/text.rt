@@ -52,8 +52,7 @@ fn put_cluster(
     while k < count {
         let item = next_item(first, second, head);
         let entry = item.entry;
-        let pos = entry.pos;
-        next = put_entry(item.side, pos.0, cluster, marks[i + k], out, next);
+        next = put_entry(item.side, entry.pos, cluster, marks[i + k], out, next);
         head = after(first, second, head, item.side);
         k += 1;
     }

@@ -14,6 +14,7 @@ use borrow.Author.Tests.{eq-eqb, ne-eqb}
 use lib.Dec.{eqb, leb}
 use lib.ListN.{length, getD, length-append}
 use lib.Seq.{append-snoc, drop-append-add, take-length}
+use Rattle.bases.specs.declared.place.Pos.{Pos}
 use Rattle.bases.proofs.TestLaws.{of-true}
 use Rattle.bases.specs.Pick.{pick}
 use Rattle.lines.proofs.FieldLaws.{number-pos}
@@ -32,7 +33,7 @@ use Rattle.lot_report.proofs.CountLaws.{count-digits, capped-small}
 use Rattle.lot_report.proofs.RunLaws.{counts-zero}
 
 -- A field that writes a number from 1 on as a POS is a count.
-pos-count : (f : List ℕ) (m : ℕ) → readPos f ≡ suc m → (count? f ≡ true) × (valueFrom 0 f ≡ suc m)
+pos-count : (f : List ℕ) (m : ℕ) → readPos f .0 ≡ suc m → (count? f ≡ true) × (valueFrom 0 f ≡ suc m)
 unfolding isPos?
 pos-count f m r = go (allDigits? f) (eqb (getD f 0 48) 48) (leb (valueFrom 0 f) largestPos) r
   where
@@ -47,7 +48,7 @@ unfolding digitsOf allDigits? valueFrom
 count-written zero h = (refl, refl)
 count-written (suc m) h =
     let f = decimal (suc m) in
-    let r = pos-count f m (decimal-pos (suc m) (omega arith) h) in
+    let r = pos-count f m (ap (λ (p : Pos). p .0) (decimal-pos (record { 0 = suc m }) (omega arith) h)) in
     let v : countOf f ≡ suc m = ap (λ (n : ℕ). capped n) (r .1) ∙ capped-small (suc m) (omega arith) in
     rw (number-pos (suc m) h) (r .0, v)
 

@@ -23,12 +23,12 @@ put-fields-requires c κs =
 put-byte-requires : tie.Need-put-byte-requires
 put-byte-requires c κs =
     let a = c .before .before .before .before .before .before .before .args in
-    omega (arith, fields-few (c .before .before .before .before .before .list-number .result) (a .pos) (a .cluster) TAB)
+    omega (arith, fields-few (c .before .before .before .before .before .list-number .result) (a .pos .0) (a .cluster) TAB)
 
 put-byte-requires-2 : tie.Need-put-byte-requires-2
 put-byte-requires-2 c κs =
     let a = c .before .before .before .before .before .before .before .before .before .before .before .args in
-    omega (arith, fields-few (c .before .before .before .before .before .before .before .before .before .list-number .result) (a .pos) (a .cluster) TAB)
+    omega (arith, fields-few (c .before .before .before .before .before .before .before .before .before .list-number .result) (a .pos .0) (a .cluster) TAB)
 
 same-length : tie.Need-same-length
 same-length c = search needs
@@ -43,7 +43,7 @@ returns c =
     let z = c .before .before .put-byte2 in
     let e = p .last .1 .1 .1 .1 .0 in
     let f = q .last .1 .0 in
-    let s = fields (n .result) (a .pos) (a .cluster) TAB in
+    let s = fields (n .result) (a .pos .0) (a .cluster) TAB in
     let u = a .mark ∷ [] in
     let h : a .at ≤ length d = omega arith in
     let w = wrote-then d (a .at) s (p .result) e u (q .result) f h (p .ensures) (q .ensures) in
