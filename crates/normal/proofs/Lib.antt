@@ -21,6 +21,7 @@ pub mod MemberLaws
 pub mod MoveLaws
 pub mod MovedLaws
 pub mod NewAlleles
+pub mod NewOrderLaws
 pub mod NormalEntry
 pub mod NormalForm
 pub mod OrderLaws
@@ -35,6 +36,7 @@ pub mod TextLaws
 pub mod WithoutLaws
 pub mod WritesLaws
 pub mod WrittenAgain
+pub mod WrittenEntries
 pub mod WrittenForms
 pub mod WrittenLine
 pub mod WrittenList

@@ -2,6 +2,7 @@
 --     lineForm, line-form      the entry on a line, which is the entry there in a text
 --     entry-forms              the entries of an accepted list, line by line
 --     putRead, inOrder         the records read, by new POS, equal POS in the order read
+--     lines-in-order           the written records are those lines, each written
 --     written-normal           each record's line is written as its normal form: the same donor, ALT by ALT
 --     written-forms            reading the written list gives the normal forms in order
 -- Assumes nothing.
@@ -46,7 +47,7 @@ lineForm reference l = formOf reference l (entryOf l 0)
 
 -- The line l stands at a in the text t.
 module _ (t : List ℕ) (a : ℕ) (l : List ℕ) (there : take (length l) (drop a t) ≡ l) where
-  bytes-in : (p q s n : ℕ) → q ≡ a + p → s ≡ p → p + n ≤ length l → take n (drop q t) ≡ take n (drop s l)
+  pub bytes-in : (p q s n : ℕ) → q ≡ a + p → s ≡ p → p + n ≤ length l → take n (drop q t) ≡ take n (drop s l)
   bytes-in p q s n e f h = rw (e, f) (sym (part-part t a (length l) p n h) ∙ ap (λ (x : List ℕ). take n (drop p x)) there)
 
   pub line-form : (reference : List ℕ) → Stands reference l (entryOf l 0) → formOf reference t (entryOf l a) ≡ lineForm reference l
@@ -127,7 +128,7 @@ map-map F G [] = refl
 map-map F G (l ∷ ls) = ap (λ z. F (G l) ∷ z) (map-map F G ls)
 
 module _ (reference name : List ℕ) (ok : T (isReference? reference)) where
-  read-stands : (l : List ℕ) → Read reference name ok l → Stands reference l (entryOf l 0)
+  pub read-stands : (l : List ℕ) → Read reference name ok l → Stands reference l (entryOf l 0)
   read-stands l r = line-stands reference l (letters-of reference ok) (r .free) (r .line)
 
   wrote-stands : (m : List ℕ) → Wrote reference name ok m → Stands reference m (entryOf m 0)
@@ -142,7 +143,7 @@ module _ (reference name : List ℕ) (ok : T (isReference? reference)) where
   pub written-normal : (l : List ℕ) → Read reference name ok l → NormalForm (basesOf reference) (lineForm reference l) (lineForm reference (writtenLine reference l))
   written-normal l r = rw (written-line-form l r) (line-normal reference l (letters-of reference ok) (r .free) (r .line))
 
-  normal-line-form : (l : List ℕ) → Read reference name ok l → lineForm reference (writtenLine reference l) ≡ normalOf (basesOf reference) (lineForm reference l)
+  pub normal-line-form : (l : List ℕ) → Read reference name ok l → lineForm reference (writtenLine reference l) ≡ normalOf (basesOf reference) (lineForm reference l)
   normal-line-form l r = written-line-form l r ∙ normal-entry-form reference l (entryOf l 0) (read-stands l r)
 
   module _ (t : List ℕ) (accepted : judgeText reference name t .number ≡ 0) where
@@ -167,13 +168,17 @@ module _ (reference name : List ℕ) (ok : T (isReference? reference)) where
         ∙ forms-from reference w (recordsAt w) (writtenLines reference [] rs) (record-part reference name ok w a ∙ ap textOf (sym r ∙ e))
         (all-map (Wrote reference name ok) (λ l. Stands reference l (entryOf l 0)) wrote-stands (writtenLines reference [] rs) (all-wrote reference name ok t accepted))
 
-    pub written-forms : map (formOf reference w) (entriesOf w) ≡ map (λ l. normalOf (basesOf reference) (lineForm reference l)) (inOrder reference [] rs)
-    written-forms =
+    pub lines-in-order : writtenLines reference [] rs ≡ map (writtenLine reference) (inOrder reference [] rs)
+    lines-in-order =
         let read = all-read reference name ok t accepted in
         let at = all-map (Read reference name ok) (At reference) (λ l r. written-pos reference l (letters-of reference ok) (r .free) (r .line) (fits-of reference ok)) rs read in
+        written-in-order reference [] rs tt at
+
+    pub written-forms : map (formOf reference w) (entriesOf w) ≡ map (λ l. normalOf (basesOf reference) (lineForm reference l)) (inOrder reference [] rs)
+    written-forms =
         let os = inOrder reference [] rs in
         ws-forms
-        ∙ ap (map (lineForm reference)) (written-in-order reference [] rs tt at)
+        ∙ ap (map (lineForm reference)) lines-in-order
         ∙ map-map (lineForm reference) (writtenLine reference) os
         ∙ map-all (λ l. lineForm reference (writtenLine reference l)) (λ l. normalOf (basesOf reference) (lineForm reference l)) (Read reference name ok) normal-line-form os
-        (in-order-all reference (Read reference name ok) [] rs tt read)
+        (in-order-all reference (Read reference name ok) [] rs tt (all-read reference name ok t accepted))

@@ -1,4 +1,5 @@
 pub mod Cut
+pub mod Entries
 pub mod Form
 pub mod Lines
 pub mod Put
