@@ -25,3 +25,4 @@ pub mod ReadyLaws
 pub mod RefusalLaws
 pub mod ScoreLaws
 pub mod ShownLaws
+pub mod WrittenDonors

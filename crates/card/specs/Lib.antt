@@ -8,3 +8,4 @@ pub mod Mark
 pub mod Normal
 pub mod Plan
 pub mod Refusal
+pub mod WrittenDonors
