@@ -2,6 +2,7 @@ pub mod AcceptedLines
 pub mod AlikeLaws
 pub mod AltLaws
 pub mod AmongLaws
+pub mod Counterparts
 pub mod CutLaws
 pub mod DecimalLaws
 pub mod Determines
