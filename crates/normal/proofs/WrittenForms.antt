@@ -1,19 +1,17 @@
--- What is read of a written list: the normal forms of the entries read, by new POS, equal POS in the order read.
+-- What is read of a written line: the normal form of the entry read. The written lines stand by new POS, equal POS in the order read.
 --     lineForm, line-form      the entry on a line, which is the entry there in a text
---     entry-forms              the entries of an accepted list, line by line
 --     putRead, inOrder         the records read, by new POS, equal POS in the order read
 --     lines-in-order           the written records are those lines, each written
 --     written-normal           each record's line is written as its normal form: the same donor, ALT by ALT
---     written-forms            reading the written list gives the normal forms in order
+--     normal-line-form         which is what the closed form gives
 -- Assumes nothing.
 use mathlib.Core.Bool.{Bool, true, false}
 use mathlib.Core.List.{List, [], _∷_, map}
 use mathlib.Core.Path.{_≡_, refl, sym, ap, _∙_}
-use Prim.Native.Nat.{ℕ, _+_, _-_, _≤_, _<_}
+use Prim.Native.Nat.{ℕ, _+_, _≤_}
 use native.Mathlib.Omega.{arith}
 use lib.Dec.{T, eqb, ltb, lit<}
 use lib.ListN.{length, take, drop}
-use lib.Seq.{take-at, drop-append-add, drop-drop}
 use Rattle.vcf.specs.Pos.{noPos}
 use Rattle.bases.specs.declared.place.Pos.{Pos}
 use Rattle.bases.specs.Letter.{basesOf}
@@ -21,8 +19,8 @@ use Rattle.bases.specs.Pick.{pick}
 use Rattle.bases.specs.Reference.{isReference?}
 use Rattle.bases.proofs.PartLaws.{part-part}
 use Rattle.vcf.specs.Allele.{altCount}
-use Rattle.vcf.specs.Bytes.{LF, COMMA, until}
-use Rattle.vcf.specs.Entry.{bytesOf, entryOf, recordsAt, entriesFrom, entriesOf}
+use Rattle.vcf.specs.Bytes.{COMMA, until}
+use Rattle.vcf.specs.Entry.{bytesOf, entryOf}
 use Rattle.vcf.specs.Field.{field, fieldAt}
 use Rattle.vcf.specs.List.{linesOf, judgeText}
 use Rattle.vcf.specs.Record.{posOn}
@@ -31,14 +29,14 @@ use Rattle.normal.specs.Form.{Form, NormalForm}
 use Rattle.normal.specs.Cut.{normalOf}
 use Rattle.normal.specs.Spelled.{formOf, Within, Stands, formSpelled}
 use Rattle.normal.specs.Lines.{All}
-use Rattle.normal.specs.Written.{newOn, newPos, writtenLine, putLine, writtenLines, textOf, writtenText}
+use Rattle.normal.specs.Written.{newOn, newPos, writtenLine, putLine, writtenLines}
 use Rattle.normal.proofs.HeaderLaws.{recordsOf}
 use Rattle.normal.proofs.NormalEntry.{normal-entry-form}
 use Rattle.normal.proofs.RecordEntryLaws.{line-stands, line-normal}
 use Rattle.normal.proofs.TextLaws.{all-map}
 use Rattle.normal.proofs.WrittenAgain.{alts-same, same-form, written-form}
 use Rattle.normal.proofs.WrittenLine.{written-pos}
-use Rattle.normal.proofs.WrittenList.{Read, Wrote, record-part, record-lines, all-read, all-wrote, written-accepted, written-lines}
+use Rattle.normal.proofs.WrittenList.{Read, all-read}
 use Rattle.normal.proofs.WrittenRows.{letters-of, fits-of}
 
 -- What the entry on a line spells.
@@ -61,19 +59,6 @@ module _ (t : List ℕ) (a : ℕ) (l : List ℕ) (there : take (length l) (drop 
           ap basesOf (bytes-in (fieldAt 4 l + until COMMA (field 4 l) + 1) (entryOf l a .second .at) (entryOf l 0 .second .at) (entryOf l 0 .second .len) (omega arith) (omega arith) (omega (arith, w .1)))
       second false w v = absurd v
 
-forms-from : (reference t : List ℕ) (a : ℕ) (ls : List (List ℕ)) → drop a t ≡ textOf ls → All (λ l. Stands reference l (entryOf l 0)) ls
-    → map (formOf reference t) (entriesFrom a ls) ≡ map (lineForm reference) ls
-unfolding entriesFrom textOf
-forms-from reference t a [] e h = refl
-forms-from reference t a (l ∷ ls) e h =
-    let here : take (length l) (drop a t) ≡ l = ap (take (length l)) e ∙ take-at l (LF ∷ textOf ls) (length l) refl in
-    let n : a + length l + 1 ≡ a + (length l + 1) = omega arith in
-    let next : drop (a + length l + 1) t ≡ textOf ls =
-    ap (λ (z : ℕ). drop z t) n ∙ sym (drop-drop (length l + 1) a t) ∙ ap (drop (length l + 1)) e ∙ drop-append-add l (LF ∷ textOf ls) 1 in
-    let first = line-form t a l here reference (h .0) in
-    let more = forms-from reference t (a + length l + 1) ls next (h .1) in
-    cc
-
 module _ (reference : List ℕ) where
   -- A record read, put among records by new POS: behind each whose new POS is not above its own.
   unfoldable pub putRead : List ℕ → List (List ℕ) → List (List ℕ)
@@ -93,11 +78,6 @@ module _ (reference : List ℕ) where
       go : (u : Bool) → All P (putRead l ms) → All P (pick u (l ∷ m ∷ ms) (m ∷ putRead l ms))
       go true r = (h, k)
       go false r = (k .0, r)
-
-  in-order-all : (P : List ℕ → Type 0) (done ls : List (List ℕ)) → All P done → All P ls → All P (inOrder done ls)
-  unfolding inOrder
-  in-order-all P done [] h k = h
-  in-order-all P done (l ∷ ls) h k = in-order-all P (putRead l done) ls (put-read-all P l done (k .0) h) (k .1)
 
   -- A line is written at its new POS.
   abbrev At : List ℕ → Type 0
@@ -119,21 +99,9 @@ module _ (reference : List ℕ) where
   written-in-order done [] h k = refl
   written-in-order done (l ∷ ls) h k = rw (put-map l done (k .0) h) (written-in-order (putRead l done) ls (put-read-all At l done (k .0) h) (k .1))
 
-map-all : {A : Type 0} (F G : List ℕ → A) (P : List ℕ → Type 0) → ((l : List ℕ) → P l → F l ≡ G l) → (ls : List (List ℕ)) → All P ls → map F ls ≡ map G ls
-map-all F G P f [] h = refl
-map-all F G P f (l ∷ ls) h = let a = f l (h .0) in let b = map-all F G P f ls (h .1) in cc
-
-map-map : {A : Type 0} (F : List ℕ → A) (G : List ℕ → List ℕ) (ls : List (List ℕ)) → map F (map G ls) ≡ map (λ l. F (G l)) ls
-map-map F G [] = refl
-map-map F G (l ∷ ls) = ap (λ z. F (G l) ∷ z) (map-map F G ls)
-
 module _ (reference name : List ℕ) (ok : T (isReference? reference)) where
   pub read-stands : (l : List ℕ) → Read reference name ok l → Stands reference l (entryOf l 0)
   read-stands l r = line-stands reference l (letters-of reference ok) (r .free) (r .line)
-
-  wrote-stands : (m : List ℕ) → Wrote reference name ok m → Stands reference m (entryOf m 0)
-  wrote-stands m w =
-      line-stands reference m (letters-of reference ok) (w .free) (record-line reference name 0 noPos m (w .rows 0 noPos (lit< tt) (omega arith)))
 
   written-line-form : (l : List ℕ) → Read reference name ok l → lineForm reference (writtenLine reference l) ≡ formSpelled reference l (altCount (field 4 l)) (newOn reference l)
   written-line-form l r =
@@ -150,35 +118,8 @@ module _ (reference name : List ℕ) (ok : T (isReference? reference)) where
     abbrev rs : List (List ℕ)
     rs = recordsOf (linesOf t)
 
-    abbrev w : List ℕ
-    w = writtenText reference t
-
-    pub entry-forms : map (formOf reference t) (entriesOf t) ≡ map (lineForm reference) rs
-    entry-forms =
-        ap (λ (ls : List (List ℕ)). map (formOf reference t) (entriesFrom (recordsAt t) ls)) (record-lines reference name ok t accepted)
-        ∙ forms-from reference t (recordsAt t) rs (record-part reference name ok t accepted)
-        (all-map (Read reference name ok) (λ l. Stands reference l (entryOf l 0)) read-stands rs (all-read reference name ok t accepted))
-
-    ws-forms : map (formOf reference w) (entriesOf w) ≡ map (lineForm reference) (writtenLines reference [] rs)
-    ws-forms =
-        let e = written-lines reference name ok t accepted in
-        let a = written-accepted reference name ok t accepted in
-        let r = record-lines reference name ok w a in
-        ap (λ (ls : List (List ℕ)). map (formOf reference w) (entriesFrom (recordsAt w) ls)) e
-        ∙ forms-from reference w (recordsAt w) (writtenLines reference [] rs) (record-part reference name ok w a ∙ ap textOf (sym r ∙ e))
-        (all-map (Wrote reference name ok) (λ l. Stands reference l (entryOf l 0)) wrote-stands (writtenLines reference [] rs) (all-wrote reference name ok t accepted))
-
     pub lines-in-order : writtenLines reference [] rs ≡ map (writtenLine reference) (inOrder reference [] rs)
     lines-in-order =
         let read = all-read reference name ok t accepted in
         let at = all-map (Read reference name ok) (At reference) (λ l r. written-pos reference l (letters-of reference ok) (r .free) (r .line) (fits-of reference ok)) rs read in
         written-in-order reference [] rs tt at
-
-    pub written-forms : map (formOf reference w) (entriesOf w) ≡ map (λ l. normalOf (basesOf reference) (lineForm reference l)) (inOrder reference [] rs)
-    written-forms =
-        let os = inOrder reference [] rs in
-        ws-forms
-        ∙ ap (map (lineForm reference)) lines-in-order
-        ∙ map-map (lineForm reference) (writtenLine reference) os
-        ∙ map-all (λ l. lineForm reference (writtenLine reference l)) (λ l. normalOf (basesOf reference) (lineForm reference l)) (Read reference name ok) normal-line-form os
-        (in-order-all reference (Read reference name ok) [] rs tt (all-read reference name ok t accepted))
