@@ -19,6 +19,7 @@ pub mod MarkDetermines
 pub mod MarkLaws
 pub mod MarkSteps
 pub mod NormalLaws
+pub mod OverlapExample
 pub mod Passing
 pub mod PlanLaws
 pub mod ReadyLaws
