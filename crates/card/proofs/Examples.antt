@@ -45,10 +45,10 @@ Holds (marks spelt first second records bytes total) =
     × (totalScore reference (clustersOf reference first second) ≡ total)
 
 -- Three equations that compute, and six.
-three : {A B C : Type 0} {a : A} {b : B} {c : C} → (a ≡ a) × (b ≡ b) × (c ≡ c)
+pub three : {A B C : Type 0} {a : A} {b : B} {c : C} → (a ≡ a) × (b ≡ b) × (c ≡ c)
 three = (refl, refl, refl)
 
-six : {A B C D E F : Type 0} {a : A} {b : B} {c : C} {d : D} {e : E} {f : F} → (a ≡ a) × (b ≡ b) × (c ≡ c) × (d ≡ d) × (e ≡ e) × (f ≡ f)
+pub six : {A B C D E F : Type 0} {a : A} {b : B} {c : C} {d : D} {e : E} {f : F} → (a ≡ a) × (b ≡ b) × (c ≡ c) × (d ≡ d) × (e ≡ e) × (f ≡ f)
 six = (refl, refl, refl, refl, refl, refl)
 
 pub examples : All Holds table

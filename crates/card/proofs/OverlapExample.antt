@@ -2,11 +2,11 @@
 -- overlap; the deletion's normal form is POS 2 CAT to C, and of the two only one may then be chosen. The lists are those of examples/overlap.
 -- Assumes nothing.
 use mathlib.Core.List.{List, [], _∷_}
-use mathlib.Core.Path.{refl}
 use Prim.Native.Nat.{ℕ}
 use Rattle.bases.specs.Letter.{among?, letterOf, allLetters?}
 use Rattle.bases.specs.Period.{anyPeriod?}
 use Rattle.bases.specs.Same.{agree?}
+use Rattle.clusters.specs.Marks.{totalScore}
 use Rattle.clusters.specs.Merged.{weave, merged}
 use Rattle.clusters.specs.Plan.{rest, plan, recordsFrom}
 use Rattle.donors.specs.Apart.{All, chain?}
@@ -28,27 +28,24 @@ use Rattle.vcf.specs.Header.{headerWrong?}
 use Rattle.vcf.specs.List.{linesOf, judgeLines, judgeText}
 use Rattle.vcf.specs.Pos.{allDigits?, isPos?, valueFrom}
 use Rattle.vcf.specs.Row.{firstRow}
-use Rattle.card.specs.Examples.{A, C, G, T, text, hom, plus, zero, cluster, Example, normal, marks}
-use Rattle.card.proofs.Examples.{Holds}
-
-abbrev bases : List ℕ
-bases = G ∷ C ∷ A ∷ T ∷ A ∷ T ∷ G ∷ []
+use Rattle.card.specs.Examples.{text, hom, cluster, Example, normal, marks}
+use Rattle.card.proofs.Examples.{Holds, three, six}
 
 -- The list as read, and as it is written.
 abbrev read : List ℕ
-read = text (hom 2 (C ∷ []) (G ∷ []) ∷ hom 4 (T ∷ A ∷ T ∷ []) (T ∷ []) ∷ [])
+read = text (hom "2" "C" "G" ∷ hom "4" "TAT" "T" ∷ [])
 
 abbrev written : List ℕ
-written = text (hom 2 (C ∷ []) (G ∷ []) ∷ hom 2 (C ∷ A ∷ T ∷ []) (C ∷ []) ∷ [])
+written = text (hom "2" "C" "G" ∷ hom "2" "CAT" "C" ∷ [])
 
 -- As read all four entries match; as written two do.
 abbrev pub overlap : List Example
 overlap =
-    marks bases read read (cluster 0 2 ∷ cluster 2 2 ∷ []) (plus ∷ plus ∷ plus ∷ plus ∷ [])
-    ∷ normal bases read written
-    ∷ marks bases written written (cluster 0 4 ∷ []) (plus ∷ zero ∷ plus ∷ zero ∷ [])
+    marks "GCATATG" read read (cluster 0 2 ∷ cluster 2 2 ∷ []) "++++" 4
+    ∷ normal "GCATATG" read written
+    ∷ marks "GCATATG" written written (cluster 0 4 ∷ []) "+0+0" 2
     ∷ []
 
 pub overlap-holds : All Holds overlap
-unfolding among? letterOf allLetters? anyPeriod? agree? weave merged rest plan recordsFrom chain? donorFrom edits score every? allowed? bestOf join first? better bestOver search run all? shortest normalEntry digitsOf writtenLine putLine writtenLines textOf writtenText altsWrong? until headerBytes entriesFrom full? skip copiesWrong? headerWrong? linesOf judgeLines judgeText allDigits? isPos? valueFrom firstRow
-overlap-holds = ((refl, refl, refl, refl), ((refl, refl), ((refl, refl, refl, refl), tt)))
+unfolding among? letterOf allLetters? anyPeriod? agree? weave merged rest plan recordsFrom totalScore chain? donorFrom edits score every? allowed? bestOf join first? better bestOver search run all? shortest normalEntry digitsOf writtenLine putLine writtenLines textOf writtenText altsWrong? until headerBytes entriesFrom full? skip copiesWrong? headerWrong? linesOf judgeLines judgeText allDigits? isPos? valueFrom firstRow
+overlap-holds = (six, (three, (six, tt)))
