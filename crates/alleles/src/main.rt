@@ -1,4 +1,5 @@
-// Calls the card's `allele` and `allele_refusal` on a small list, and prints for each call the part that is shown and the three numbers of the refusal.
+// Calls the card's `allele` and `allele_refusal` on a small list, and prints for each call the part that is shown and the three numbers of
+// the refusal.
 use libc::STDOUT_FILENO;
 
 fn print_number(n: u32) {
@@ -22,7 +23,8 @@ fn main() {
     let reference = b"GCATATG";
     let name = b"chr1";
     let text =
-        b"##fileformat=VCFv4.2\n#CHROM\tPOS\tID\tREF\tALT\tQUAL\tFILTER\tINFO\tFORMAT\tsample\nchr1\t2\t.\tCAT\tC,CATAT\t.\tPASS\t.\tGT\t1/2\nchr1\t4\t.\tTAT\tT\t.\tPASS\t.\tGT\t1/1\n";
+        b"##fileformat=VCFv4.2\n#CHROM\tPOS\tID\tREF\tALT\tQUAL\tFILTER\tINFO\tFORMAT\tsample\n\
+          chr1\t2\t.\tCAT\tC,CATAT\t.\tPASS\t.\tGT\t1/2\nchr1\t4\t.\tTAT\tT\t.\tPASS\t.\tGT\t1/1\n";
     show(reference, name, text, 0, 0);
     show(reference, name, text, 0, 1);
     show(reference, name, text, 0, 2);

@@ -8,7 +8,10 @@ ghost use Rattle.bases.specs.Put.{put};
 // Writes the bytes into `out` from `at` on.
 pub fn put_bytes(bytes: &[u8], out: &mut [u8], at: usize) -> usize
     requires { ⌜ at + length (now bytes) ≤ length (now out) ⌝ }
-    ensures { λ r. ⌜ (r ≡ at + length (now (bytes .entry))) × (now (out .exit) ≡ put (now (out .entry)) at (now (bytes .entry))) ⌝ }
+    ensures { λ r. ⌜
+        (r ≡ at + length (now (bytes .entry)))
+        × (now (out .exit) ≡ put (now (out .entry)) at (now (bytes .entry)))
+        ⌝ }
 {
     let mut i: usize = 0;
     while i < bytes.len() {
@@ -21,7 +24,10 @@ pub fn put_bytes(bytes: &[u8], out: &mut [u8], at: usize) -> usize
 // Writes one byte.
 pub fn put_byte(byte: u8, out: &mut [u8], at: usize) -> usize
     requires { ⌜ at < length (now out) ⌝ }
-    ensures { λ r. ⌜ (r ≡ at + 1) × (now (out .exit) ≡ put (now (out .entry)) at (byte ∷ [])) ⌝ }
+    ensures { λ r. ⌜
+        (r ≡ at + 1)
+        × (now (out .exit) ≡ put (now (out .entry)) at (byte ∷ []))
+        ⌝ }
 {
     out[at] = byte;
     at + 1

@@ -69,7 +69,8 @@ module _ (xs : Refs) (x : RefT (List Cluster)) (m : RefT (List ℕ)) where
 abbrev pub Ghost : {M : Type 1} (𝓤 : URA M) (H : Heap 𝓤) (A : Atoms 𝓤) → (Memory → SProp 𝓤) → (Routine → Fun 𝓤) → Type 0
 Ghost 𝓤 H A mem run = walkOf 𝓤 H A mark-all.ended stayed (mark-all.clauses 𝓤 H A mem run) .Ghost
 
-module _ {M : Type 1} (𝓤 : URA M) (H : Heap 𝓤) (A : Atoms 𝓤) (mem : Memory → SProp 𝓤) (run : Routine → Fun 𝓤) (κs : Lfts 4) (κ κ₂ : Lft) (qs : Shares 4) (q q₂ : Share) (xs : Refs) (x : RefT (List Cluster)) (m : RefT (List ℕ)) where
+module _ {M : Type 1} (𝓤 : URA M) (H : Heap 𝓤) (A : Atoms 𝓤) (mem : Memory → SProp 𝓤) (run : Routine → Fun 𝓤) (κs : Lfts 4) (κ κ₂ : Lft) (qs : Shares 4) (q q₂ : Share) (xs : Refs)
+    (x : RefT (List Cluster)) (m : RefT (List ℕ)) where
   abbrev pub passed : Ghost 𝓤 H A mem run
   passed = (
     (
@@ -92,7 +93,8 @@ module _ {M : Type 1} (𝓤 : URA M) (H : Heap 𝓤) (A : Atoms 𝓤) (mem : Mem
       → ent 𝓤 (⋆ 𝓤 H A (raw (toks 𝓤 A 4 κs qs) ∷ ‵ (flft κ q) ∷ ‵ (flft κ₂ q₂) ∷ ‵ (Ends R x zs) ∷ ‵ (Ends u8 m ms) ∷ [])) (Post (AllMarked″.lowered r))
   exits W r zs ms good e =
       qed W (raw (toks 𝓤 A 4 κs qs) ∷ ‵ (flft κ q) ∷ ‵ (flft κ₂ q₂) ∷ ‵ (Ends R x zs) ∷ ‵ (Ends u8 m ms) ∷ []) ∵
-      suffices ! _ (ends-at 𝓤 H A mark-all.ended stayed (mark-all.clauses 𝓤 H A mem run) W passed (AllMarked″.lowered r) r (tt, (tt, (tt, (tt, (zs, (ms, tt)))))) (tt, (tt, (tt, (tt, (tt, (tt, tt))))))) $ says ! e $
+      suffices ! _ (ends-at 𝓤 H A mark-all.ended stayed (mark-all.clauses 𝓤 H A mem run) W passed (AllMarked″.lowered r) r (tt, (tt, (tt, (tt, (zs, (ms, tt))))))
+      (tt, (tt, (tt, (tt, (tt, (tt, tt))))))) $ says ! e $
       use2 W (raw (toks 𝓤 A 5 (lastLft 4 κs κ) (lastShare 4 qs q))) (token-in 𝓤 H A W κ q 4 κs qs) $
       use2 W (raw (toks 𝓤 A 6 (lastLft 5 (lastLft 4 κs κ) κ₂) (lastShare 5 (lastShare 4 qs q) q₂))) (token-in 𝓤 H A W κ₂ q₂ 5 (lastLft 4 κs κ) (lastShare 4 qs q)) $ frame ! $
       nothing ! $ move ! (2 ∷ 0 ∷ []) $ fjoin ! $ move ! (1 ∷ 0 ∷ []) $ fjoin ! $ nothing ! $ fjoin ! $ nothing ! $ fjoin ! $ nothing ! $ fjoin ! $ nothing ! $ fjoin ! $ frame ! $
@@ -105,9 +107,19 @@ pub meets : {M : Type 1} (𝓤 : URA M) (H : Heap 𝓤) (A : Atoms 𝓤) → Giv
 meets 𝓤 H A W mem run body mono walk =
     walk-meets 𝓤 H A mark-all.ended stayed W (told-go 𝓤 H A W 6 (mark-all.ended .signature .params) (mark-all.ended .kept)) (mark-all.clauses 𝓤 H A mem run) body mono
     (walked 𝓤 H A mark-all.ended stayed (mark-all.clauses 𝓤 H A mem run) body (λ κs. (slice-vals, (slice-vals, (slice-vals, (slice-vals, (slice-vals, (slice-vals, tt)))))))
-    (λ κs. (shr-slice-tells (named 0) (κs .0) u8, (shr-slice-tells (named 1) (κs .1 .0) u8, (shr-slice-tells (named 2) (κs .1 .1 .0) u8, (shr-slice-tells (named 3) (κs .1 .1 .1 .0) u8, (mut-slice-tells (named 4) (κs .1 .1 .1 .1 .0) R, (mut-slice-tells (named 5) (κs .1 .1 .1 .1 .1 .0) u8, tt)))))))
+    (λ κs. (
+      shr-slice-tells (named 0) (κs .0) u8,
+      (
+        shr-slice-tells (named 1) (κs .1 .0) u8,
+        (
+          shr-slice-tells (named 2) (κs .1 .1 .0) u8,
+          (shr-slice-tells (named 3) (κs .1 .1 .1 .0) u8, (mut-slice-tells (named 4) (κs .1 .1 .1 .1 .0) R, (mut-slice-tells (named 5) (κs .1 .1 .1 .1 .1 .0) u8, tt))),
+        ),
+      ),
+    ))
     (λ κs qs bounds a g are. via 𝓤 _ (fst∗ 𝓤 _ (emp 𝓤))
-    (walk (κs .0, (κs .1 .0, (κs .1 .1 .0, (κs .1 .1 .1 .0, tt)))) (κs .1 .1 .1 .1 .0) (κs .1 .1 .1 .1 .1 .0) (qs .0, (qs .1 .0, (qs .1 .1 .0, (qs .1 .1 .1 .0, tt)))) (qs .1 .1 .1 .1 .0) (qs .1 .1 .1 .1 .1 .0)
+    (walk (κs .0, (κs .1 .0, (κs .1 .1 .0, (κs .1 .1 .1 .0, tt)))) (κs .1 .1 .1 .1 .0) (κs .1 .1 .1 .1 .1 .0) (qs .0, (qs .1 .0, (qs .1 .1 .0, (qs .1 .1 .1 .0, tt)))) (qs .1 .1 .1 .1 .0)
+    (qs .1 .1 .1 .1 .1 .0)
     (a .0, (a .1 .0, (a .1 .1 .0, (a .1 .1 .1 .0, tt)))) (a .1 .1 .1 .1 .0) (a .1 .1 .1 .1 .1 .0) (record {
       reference = are .0 .0 .1;
       name = are .1 .0 .0 .1;

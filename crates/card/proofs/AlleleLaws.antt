@@ -149,7 +149,8 @@ module _ (reference name text : List ℕ) (i k : ℕ) where
 
     there-some : 1 ≤ length (bytesShown reference text (shown reference name text i k))
     there-some = ⊎-elim
-        (λ e. rw (reference-shown e, length-take-le (length (field 3 line)) (drop (placeOf (posOn line) .0) reference) (rw length-drop (omega (arith, a .line .within)))) (allele-some (field 3 line) (a .line .ref)))
+        (λ e. rw (reference-shown e, length-take-le (length (field 3 line)) (drop (placeOf (posOn line) .0) reference) (rw length-drop (omega (arith, a .line .within))))
+        (allele-some (field 3 line) (a .line .ref)))
         (⊎-elim
         (λ e. rw (first-shown e) (allele-some (firstAlt (field 4 line)) (first-allele (field 3 line) (field 4 line) (a .line .alts))))
         (λ e. rw (second-shown e) (allele-some (secondAlt (field 4 line)) (second-allele (field 3 line) (field 4 line) (a .line .alts) (two e)))))

@@ -64,13 +64,16 @@ module _ {M : Type 1} (𝓤 : URA M) (H : Heap 𝓤) (A : Atoms 𝓤) (W : Given
 
 module _ {M : Type 1} {𝓤 : URA M} {H : Heap 𝓤} {A : Atoms 𝓤} {K : Type 0} {W : Given 𝓤 H A} {Γ : List (Item 𝓤)} {G : Goal 𝓤 H} where
   pub lends-array : K → Soaks G → (ℓ : Lifetime) (n : ℕ) (xs : List Cluster) (v : Val) → Is (Array R n) xs (v ∷ []) → Room R (length xs) → (l : ℕ)
-      → ((ν : ℕ) (δ : GName) → Seq K W (‵ (flft (ν ∷ []) fullShare) ∷ ‵ (MutSlice ℓ (ν ∷ []) R .own (record { ptr = (l, 0); name = δ; now = xs }) (sliceVal (l, 0) (length xs) ∷ [])) ∷ ‵ (flent (ν ∷ []) (Held R n l 0 δ)) ∷ Γ) G)
+      → ((ν : ℕ) (δ : GName)
+      → Seq K W (‵ (flft (ν ∷ []) fullShare) ∷ ‵ (MutSlice ℓ (ν ∷ []) R .own (record { ptr = (l, 0); name = δ; now = xs }) (sliceVal (l, 0) (length xs) ∷ [])) ∷ ‵ (flent (ν ∷ []) (Held R n l 0 δ))
+      ∷ Γ) G)
       → Seq K W (‵ (fat fullShare (array n) l 0 v) ∷ Γ) G
   lends-array t z ℓ n xs v is room l k =
       use1 W (‵ (partAt (Array R n) fullShare xs l 0)) (in-memory 𝓤 H A W n xs v is l) $
       use1 W (‵ (arr-parts (shares R) n .part fullShare xs l 0)) (array-apart 𝓤 H A W R fullShare tt n xs l 0) $ fsplit t $ drop t $ use1 W (‵ (cells (mem R) xs l 0)) (whole-in 𝓤 H A W R xs l 0) $
       lft-new t z (λ ν. move t (1 ∷ []) $
-      use1 W (later (some (λ (δ : GName). ‵ (MutSlice ℓ (ν ∷ []) R .own (record { ptr = (l, 0); name = δ; now = xs }) (sliceVal (l, 0) (length xs) ∷ [])) ⊛ ‵ (flent (ν ∷ []) (Held R (length xs) l 0 δ))))) (lends-slice 𝓤 H A W R ℓ (ν ∷ []) xs l 0 room) $
+      use1 W (later (some (λ (δ : GName). ‵ (MutSlice ℓ (ν ∷ []) R .own (record { ptr = (l, 0); name = δ; now = xs }) (sliceVal (l, 0) (length xs) ∷ [])) ⊛ ‵
+      (flent (ν ∷ []) (Held R (length xs) l 0 δ))))) (lends-slice 𝓤 H A W R ℓ (ν ∷ []) xs l 0 room) $
       await t z $ pick t (λ δ. split t $ move t (2 ∷ 0 ∷ []) $ rewrite t 2 (λ (m : ℕ). ‵ (flent (ν ∷ []) (Held R m l 0 δ))) (is .1 .0 .1) refl $ k ν δ))
 
   pub array-back : K → Soaks G → (n : ℕ) (zs : List Cluster) (l ν : ℕ) (δ : GName) → (Is (Array R n) zs (spelled zs ∷ []) → Seq K W (‵ (fat fullShare (array n) l 0 (spelled zs)) ∷ Γ) G)
@@ -78,7 +81,8 @@ module _ {M : Type 1} {𝓤 : URA M} {H : Heap 𝓤} {A : Atoms 𝓤} {K : Type 
   unfolding partOf
   array-back t z n zs l ν δ k =
       lft-end t z $ use3 W (later (‵ (Arr (mem R) n .lies zs l 0))) (slice-back 𝓤 H A W R (ν ∷ []) δ zs n l 0) $ await t z $
-      fsplit t $ move t (1 ∷ []) $ use1 W (‵ (row R fullShare zs l 0)) (whole-out 𝓤 H A W R zs l 0) $ move t (1 ∷ 0 ∷ []) $ fjoin t $ use1 W (‵ (partAt (Array R n) fullShare zs l 0)) (array-whole 𝓤 H A W R fullShare n zs l 0) $
+      fsplit t $ move t (1 ∷ []) $ use1 W (‵ (row R fullShare zs l 0)) (whole-out 𝓤 H A W R zs l 0) $ move t (1 ∷ 0 ∷ []) $ fjoin t $
+      use1 W (‵ (partAt (Array R n) fullShare zs l 0)) (array-whole 𝓤 H A W R fullShare n zs l 0) $
       fpick t (λ vs. fsplit t $ move t (1 ∷ []) $ peeks t (Array R n) (Is (Array R n)) (shows 𝓤 H A (Array R n)) zs vs (λ p.
       drop t $ rewrite t 0 (λ (us : List Val). ‵ (cellAt fullShare (Array R n .mir) us l 0)) (spells n zs vs p) refl $
       use1 W (‵ (fat fullShare (array n) l 0 (spelled zs))) (W .laws .raw-at fullShare (array n) l 0 (spelled zs)) $
@@ -88,7 +92,8 @@ module _ {M : Type 1} {𝓤 : URA M} {H : Heap 𝓤} {A : Atoms 𝓤} {K : Type 
 pub as-field : (n : ℕ) (zs : List Cluster) → Is (Array R n) zs (spelled zs ∷ []) → Is (Array (Cluster′.the-field .row) n) (map (Cluster′.the-field .into) zs) (spelled zs ∷ [])
 as-field n zs is = (is .0, ((is .1 .0 .0, map-length (Cluster′.the-field .into) zs ∙ is .1 .0 .1), go zs (is .0) (is .1 .1)))
   where
-    go : (ys : List Cluster) (us : List Val) → shadow (each Cluster (R .own) ys us) → shadow (each (Cluster′.the-field .row .Denot) (Cluster′.the-field .row .own) (map (Cluster′.the-field .into) ys) us)
+    go : (ys : List Cluster) (us : List Val) → shadow (each Cluster (R .own) ys us)
+        → shadow (each (Cluster′.the-field .row .Denot) (Cluster′.the-field .row .own) (map (Cluster′.the-field .into) ys) us)
     go [] [] s = tt
     go [] (u ∷ us) s = absurd s
     go (y ∷ ys) [] s = absurd s

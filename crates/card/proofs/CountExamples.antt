@@ -35,12 +35,14 @@ of marks =
 
 pub each-list : of (ascii "+0?" ++ replicate 1021 (code "+"))
     ≡ countedOf (answer 0 0 0 0) (record { first = record { matched = 0; unmatched = 1; undecided = 0 }; second = record { matched = 1; unmatched = 0; undecided = 1 } })
-unfolding among? letterOf allLetters? agree? weave merged join altsWrong? until headerBytes entriesFrom full? skip copiesWrong? headerWrong? linesOf judgeLines judgeText allDigits? isPos? valueFrom firstRow howMany ownMarks firstRefusal
+unfolding among? letterOf allLetters? agree? weave merged join altsWrong? until headerBytes entriesFrom full? skip copiesWrong? headerWrong? linesOf judgeLines judgeText allDigits? isPos? valueFrom
+    firstRow howMany ownMarks firstRefusal
 each-list = refl
 
 pub no-mark : of (ascii "T0+" ++ replicate 1021 (code "+"))
     ≡ countedOf (answer 0 0 0 0) (record { first = record { matched = 0; unmatched = 1; undecided = 0 }; second = record { matched = 1; unmatched = 0; undecided = 0 } })
-unfolding among? letterOf allLetters? agree? weave merged join altsWrong? until headerBytes entriesFrom full? skip copiesWrong? headerWrong? linesOf judgeLines judgeText allDigits? isPos? valueFrom firstRow howMany ownMarks firstRefusal
+unfolding among? letterOf allLetters? agree? weave merged join altsWrong? until headerBytes entriesFrom full? skip copiesWrong? headerWrong? linesOf judgeLines judgeText allDigits? isPos? valueFrom
+    firstRow howMany ownMarks firstRefusal
 no-mark = refl
 
 pub too-few : of (ascii "+0?" ++ replicate 1020 (code "+")) ≡ countedOf (answer 2 0 0 0) noCounts

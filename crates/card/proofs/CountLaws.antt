@@ -85,4 +85,5 @@ module _ (reference name first second : List ℕ) (plan : List Cluster) (marks :
       let left : ltb (length (put marks 0 these)) leastRoom ≡ smallRoom? (length plan) (length marks) = ap (λ (n : ℕ). ltb n leastRoom) same ∙ roomy ∙ sym (r .0 .roomy) in
       let e : countRefusal reference name first second (put marks 0 these) .number ≡ 0 = rw left z in
       let front : take (length (mergedItems first second)) (put marks 0 these) ≡ these = ap (λ (n : ℕ). take n (put marks 0 these)) (sym long) ∙ take-append-seam these _ in
-      rw (all-given reference name first second plan marks z .2) (e, count-entries reference name first second (put marks 0 these) e (rw front (all-marked reference (clustersOf reference first second))))
+      rw (all-given reference name first second plan marks z .2)
+      (e, count-entries reference name first second (put marks 0 these) e (rw front (all-marked reference (clustersOf reference first second))))

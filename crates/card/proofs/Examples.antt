@@ -52,5 +52,7 @@ pub six : {A B C D E F : Type 0} {a : A} {b : B} {c : C} {d : D} {e : E} {f : F}
 six = (refl, refl, refl, refl, refl, refl)
 
 pub examples : All Holds table
-unfolding among? letterOf allLetters? anyPeriod? agree? weave merged rest plan recordsFrom totalScore chain? donorFrom edits score every? allowed? bestOf join first? better bestOver search run all? shortest normalEntry digitsOf writtenLine putLine writtenLines textOf writtenText altsWrong? until headerBytes entriesFrom full? skip copiesWrong? headerWrong? linesOf judgeLines judgeText allDigits? isPos? valueFrom firstRow
+unfolding among? letterOf allLetters? anyPeriod? agree? weave merged rest plan recordsFrom totalScore chain? donorFrom edits score every? allowed? bestOf join first? better bestOver search run all?
+    shortest normalEntry digitsOf writtenLine putLine writtenLines textOf writtenText altsWrong? until headerBytes entriesFrom full? skip copiesWrong? headerWrong? linesOf judgeLines judgeText
+    allDigits? isPos? valueFrom firstRow
 examples = (six, (three, (three, (three, (three, (six, (six, (six, (six, (six, (six, (six, (six, (six, tt))))))))))))))

@@ -104,7 +104,8 @@ with-last κs κ = lastLft 3 (three κs) κ
 abbrev pub passed : (R : RattleType) (κs : Lfts 4) (κ : Lft) → Refs → RefT (List (R .Denot)) → Args (Lends R .signature) (with-last κs κ)
 passed R κs κ xs x = lastIn (Three.Texts (three κs)) (MutSlice (named 3) κ R) (lists xs) x
 
-module _ {M : Type 1} (𝓤 : URA M) (H : Heap 𝓤) (A : Atoms 𝓤) (κs : Lfts 4) (qs : Shares 4) (xs : Refs) (R : RattleType) (κ : Lft) (q : Share) (x : RefT (List (R .Denot))) (c : Clauses 𝓤 (Lends R)) where
+module _ {M : Type 1} (𝓤 : URA M) (H : Heap 𝓤) (A : Atoms 𝓤) (κs : Lfts 4) (qs : Shares 4) (xs : Refs) (R : RattleType) (κ : Lft) (q : Share) (x : RefT (List (R .Denot)))
+    (c : Clauses 𝓤 (Lends R)) where
   abbrev to-lends : c (with-last κs κ) (passed R κs κ xs x) .ghost → Met 𝓤 H A (Lends R) c .Ghost
   to-lends g = ((with-last κs κ, lastShare 3 (shares qs) q, tt, passed R κs κ xs x, lastVals (Three.Texts (three κs)) (MutSlice (named 3) κ R) (Three.vals (lists xs)) (slice-vals x)), g)
 
@@ -118,8 +119,10 @@ module _ {M : Type 1} (𝓤 : URA M) (H : Heap 𝓤) (A : Atoms 𝓤) (mem : Mem
 module _ {M : Type 1} (𝓤 : URA M) (H : Heap 𝓤) (A : Atoms 𝓤) (W : Given 𝓤 H A) (κs : Lfts 4) (xs : Refs) where
   texts-twice : ent 𝓤 (⋆ 𝓤 H A (‵ (texts κs xs) ∷ [])) (⋆ 𝓤 H A (‵ (texts κs xs) ∷ ‵ (texts κs xs) ∷ []))
   texts-twice =
-      twices 𝓤 H A W (Texts κs)
-      (shr-slice-copy 𝓤 H A W (named 0) (κs .0) u8, (shr-slice-copy 𝓤 H A W (named 1) (κs .1 .0) u8, (shr-slice-copy 𝓤 H A W (named 2) (κs .1 .1 .0) u8, (shr-slice-copy 𝓤 H A W (named 3) (κs .1 .1 .1 .0) u8, tt)))) xs (vals xs)
+      twices 𝓤 H A W (Texts κs) (
+        shr-slice-copy 𝓤 H A W (named 0) (κs .0) u8,
+        (shr-slice-copy 𝓤 H A W (named 1) (κs .1 .0) u8, (shr-slice-copy 𝓤 H A W (named 2) (κs .1 .1 .0) u8, (shr-slice-copy 𝓤 H A W (named 3) (κs .1 .1 .1 .0) u8, tt))),
+      ) xs (vals xs)
 
   -- the name is left out
   lists-of : ent 𝓤 (sem 𝓤 H A (texts κs xs)) (sem 𝓤 H A (Three.texts (three κs) (lists xs)))
@@ -139,17 +142,23 @@ module _ {M : Type 1} (𝓤 : URA M) (H : Heap 𝓤) (A : Atoms 𝓤) (W : Given
       → (Fine (turned xs small) → Good (turned xs small) → Seq K W (raw (toks 𝓤 A 4 κs qs) ∷ ‵ (texts κs xs) ∷ Γ) (lands (𝓣 .C) (𝓣 .Λ) E d (Answer″.lowered (turned xs small)) rest p))
       → Seq K W (raw (toks 𝓤 A 4 κs qs) ∷ ‵ (texts κs xs) ∷ Γ) (runs (𝓣 .C) (𝓣 .Λ) E (seq (call lists-refused-key args d) rest) p)
   turns-away t mem run known small opds k =
-      move t (1 ∷ []) $ use1 W (‵ (texts κs xs) ⊛ ‵ (texts κs xs)) (texts-twice 𝓤 H A W κs xs) $ split t $ owned t bool (Is bool) (bool-makes 𝓤 H A W) small (vbool small ∷ []) refl $ move t (1 ∷ 0 ∷ []) $
-      use2 W (‵ (owns (Texts κs ++ (bool ∷ [])) (lastIn (Texts κs) bool xs small) (lastVals (Texts κs) bool (vals xs) (vbool small ∷ [])))) (last-in 𝓤 H A W bool small (vbool small ∷ []) (Texts κs) xs (vals xs)) $ move t (2 ∷ 0 ∷ []) $
-      asks t (fmOf 𝓤 H (W .laws) 𝓣) lists-refused.ended (lists-refused.clauses 𝓤 H A mem run) known (to-refused 𝓤 H A mem run κs qs xs small) (id⊢ 𝓤 (emp 𝓤)) (λ r. r ≡ turned xs small) (λ r ws. refl) opds (λ r v is e.
+      move t (1 ∷ []) $ use1 W (‵ (texts κs xs) ⊛ ‵ (texts κs xs)) (texts-twice 𝓤 H A W κs xs) $ split t $ owned t bool (Is bool) (bool-makes 𝓤 H A W) small (vbool small ∷ []) refl $
+      move t (1 ∷ 0 ∷ []) $
+      use2 W (‵ (owns (Texts κs ++ (bool ∷ [])) (lastIn (Texts κs) bool xs small) (lastVals (Texts κs) bool (vals xs) (vbool small ∷ []))))
+      (last-in 𝓤 H A W bool small (vbool small ∷ []) (Texts κs) xs (vals xs)) $ move t (2 ∷ 0 ∷ []) $
+      asks t (fmOf 𝓤 H (W .laws) 𝓣) lists-refused.ended (lists-refused.clauses 𝓤 H A mem run) known (to-refused 𝓤 H A mem run κs qs xs small) (id⊢ 𝓤 (emp 𝓤)) (λ r. r ≡ turned xs small) (λ r ws. refl)
+      opds (λ r v is e.
       let came = became Answer′.the-row Answer″.lowered (Answer″.lowers .val-is) r (turned xs small) v is e in
       subst (λ (u : Val). Seq K W (raw (toks 𝓤 A 4 κs qs) ∷ ‵ (texts κs xs) ∷ Γ) (lands (𝓣 .C) (𝓣 .Λ) E d u rest p)) (sym (came .0))
       (k (LL.lawful Answer′.the-type Answer″.the-laws 𝓤 H A W .typed (turned xs small) _ (came .1) .0) (came .1)))
 
   pub fills : K → (R : RattleType) (κ : Lft) (q : Share) (x : RefT (List (R .Denot))) (c : Clauses 𝓤 (Lends R)) {f : Name} → Triple 𝓤 (𝓣 .C f) (Met 𝓤 H A (Lends R) c)
       → (g : c (with-last κs κ) (passed R κs κ xs x) .ghost) → ent 𝓤 (emp 𝓤) (c (with-last κs κ) (passed R κs κ xs x) .requires g)
-      → (n : ℕ) (zs : List (R .Denot)) → ((r : ℕ) (l : List (R .Denot)) → c (with-last κs κ) (passed R κs κ xs x) .ensures g r (atExit (Lends R) (with-last κs κ) (passed R κs κ xs x) (tt, (tt, (tt, (l, tt))))) ≡ fact 𝓤 ((r ≡ n) × (l ≡ zs)))
-      → Opds K W (raw (Met 𝓤 H A (Lends R) c .pre (to-lends 𝓤 H A κs qs xs R κ q x c g)) ∷ ‵ (texts κs xs) ∷ ‵ (flft (κs .1 .0) (qs .1 .0)) ∷ Γ) E args (Met 𝓤 H A (Lends R) c .args (to-lends 𝓤 H A κs qs xs R κ q x c g))
+      → (n : ℕ) (zs : List (R .Denot))
+      → ((r : ℕ) (l : List (R .Denot)) → c (with-last κs κ) (passed R κs κ xs x) .ensures g r (atExit (Lends R) (with-last κs κ) (passed R κs κ xs x) (tt, (tt, (tt, (l, tt)))))
+      ≡ fact 𝓤 ((r ≡ n) × (l ≡ zs)))
+      → Opds K W (raw (Met 𝓤 H A (Lends R) c .pre (to-lends 𝓤 H A κs qs xs R κ q x c g)) ∷ ‵ (texts κs xs) ∷ ‵ (flft (κs .1 .0) (qs .1 .0)) ∷ Γ) E args
+      (Met 𝓤 H A (Lends R) c .args (to-lends 𝓤 H A κs qs xs R κ q x c g))
       → (n < 2 ^ 64 → Seq K W (raw (toks 𝓤 A 4 κs qs) ∷ ‵ (texts κs xs) ∷ ‵ (flft κ q) ∷ ‵ (Ends R x zs) ∷ Γ) (lands (𝓣 .C) (𝓣 .Λ) E d (vint w64 n) rest p))
       → Seq K W (raw (toks 𝓤 A 4 κs qs) ∷ ‵ (texts κs xs) ∷ ‵ (flft κ q) ∷ ‵ (MutSlice (named 3) κ R .own x (slice-vals x)) ∷ Γ) (runs (𝓣 .C) (𝓣 .Λ) E (seq (call f args d) rest) p)
   fills t R κ q x c known g asked n zs said opds k =
@@ -157,7 +166,8 @@ module _ {M : Type 1} (𝓤 : URA M) (H : Heap 𝓤) (A : Atoms 𝓤) (W : Given
       -- [the lists' tokens; the name's; the texts; the slice's; the slice; …]
       move t (2 ∷ []) $ use1 W (‵ (texts κs xs) ⊛ ‵ (texts κs xs)) (texts-twice 𝓤 H A W κs xs) $ split t $
       use1 W (‵ (Three.texts (three κs) (lists xs))) (lists-of 𝓤 H A W κs xs) $ move t (0 ∷ 5 ∷ []) $
-      use2 W (‵ (owns (Three.Texts (three κs) ++ (MutSlice (named 3) κ R ∷ [])) (passed R κs κ xs x) (lastVals (Three.Texts (three κs)) (MutSlice (named 3) κ R) (Three.vals (lists xs)) (slice-vals x))))
+      use2 W (‵ (owns (Three.Texts (three κs) ++ (MutSlice (named 3) κ R ∷ [])) (passed R κs κ xs x)
+      (lastVals (Three.Texts (three κs)) (MutSlice (named 3) κ R) (Three.vals (lists xs)) (slice-vals x))))
       (last-in 𝓤 H A W (MutSlice (named 3) κ R) x (slice-vals x) (Three.Texts (three κs)) (lists xs) (Three.vals (lists xs))) $
       -- [what is passed; the texts; the lists' tokens; the name's; the slice's; …]
       move t (2 ∷ 4 ∷ []) $ use2 W (raw (toks 𝓤 A 4 (with-last κs κ) (lastShare 3 (shares qs) q))) (token-in 𝓤 H A W κ q 3 (three κs) (shares qs)) $

@@ -80,7 +80,19 @@ module _ (κs : Lfts 6) (a : Args mark.signature κs) where
 module _ {M : Type 1} (𝓤 : URA M) (H : Heap 𝓤) (A : Atoms 𝓤) (mem : Memory → SProp 𝓤) (run : Routine → Fun 𝓤) (κs : Lfts 6) (qs : Shares 6) (a : Args mark.signature κs) where
   abbrev pub passed : walkOf 𝓤 H A mark.ended stayed (mark.clauses 𝓤 H A mem run) .Ghost
   passed = (
-    (κs, qs, tt, a, (slice-vals (a .0), (slice-vals (a .1 .0), (slice-vals (a .1 .1 .0), (slice-vals (a .1 .1 .1 .0), (slice-vals (a .1 .1 .1 .1 .0), (vint w64 (a .1 .1 .1 .1 .1 .0) ∷ [], (slice-vals (a .1 .1 .1 .1 .1 .1 .0), tt)))))))),
+    (
+      κs,
+      qs,
+      tt,
+      a,
+      (
+        slice-vals (a .0),
+        (
+          slice-vals (a .1 .0),
+          (slice-vals (a .1 .1 .0), (slice-vals (a .1 .1 .1 .0), (slice-vals (a .1 .1 .1 .1 .0), (vint w64 (a .1 .1 .1 .1 .1 .0) ∷ [], (slice-vals (a .1 .1 .1 .1 .1 .1 .0), tt))))),
+        ),
+      ),
+    ),
     tt,
   )
 
@@ -101,12 +113,18 @@ module _ {M : Type 1} (𝓤 : URA M) (H : Heap 𝓤) (A : Atoms 𝓤) (mem : Mem
 
 module _ {M : Type 1} (𝓤 : URA M) (H : Heap 𝓤) (A : Atoms 𝓤) (W : Given 𝓤 H A) (mem : Memory → SProp 𝓤) (run : Routine → Fun 𝓤) where
   pub meets : (body : Fun 𝓤) → ((vs : List Val) → Mono 𝓤 (body vs))
-      → ((κs : Lfts 6) (qs : Shares 6) (a : Args mark.signature κs) → Counts κs a → ent 𝓤 (onEntry 𝓤 H A mark.signature κs qs a (passed 𝓤 H A mem run κs qs a .0 .4)) (body (args 𝓤 H A mem run κs qs a) (Post 𝓤 H A mem run κs qs a)))
+      → ((κs : Lfts 6) (qs : Shares 6) (a : Args mark.signature κs) → Counts κs a
+      → ent 𝓤 (onEntry 𝓤 H A mark.signature κs qs a (passed 𝓤 H A mem run κs qs a .0 .4)) (body (args 𝓤 H A mem run κs qs a) (Post 𝓤 H A mem run κs qs a)))
       → Meets 𝓤 H A mark.signature body (mark.spec 𝓤 H A mem run)
   meets body mono walk =
       let silent = W .laws .⇛-intro (emp 𝓤) in
-      walk-meets 𝓤 H A mark.ended stayed W
-      ((λ κs x f vs ok. silent), ((λ κs x f vs ok. silent), ((λ κs x f vs ok. silent), ((λ κs x f vs ok. silent), ((λ κs x f vs ok. silent), ((λ κs x f vs ok. silent), (goes-gave-slice 𝓤 H A W 6 5 tt (plain (λ _. u8)), tt)))))))
+      walk-meets 𝓤 H A mark.ended stayed W (
+        (λ κs x f vs ok. silent),
+        (
+          (λ κs x f vs ok. silent),
+          ((λ κs x f vs ok. silent), ((λ κs x f vs ok. silent), ((λ κs x f vs ok. silent), ((λ κs x f vs ok. silent), (goes-gave-slice 𝓤 H A W 6 5 tt (plain (λ _. u8)), tt))))),
+        ),
+      )
       (mark.clauses 𝓤 H A mem run) body mono
       (walked 𝓤 H A mark.ended stayed (mark.clauses 𝓤 H A mem run) body (λ κs. (slice-vals, (slice-vals, (slice-vals, (slice-vals, (slice-vals, (uint-vals w64, (slice-vals, tt))))))))
       (λ κs. (

@@ -47,5 +47,7 @@ overlap =
     ∷ []
 
 pub overlap-holds : All Holds overlap
-unfolding among? letterOf allLetters? anyPeriod? agree? weave merged rest plan recordsFrom totalScore chain? donorFrom edits score every? allowed? bestOf join first? better bestOver search run all? shortest normalEntry digitsOf writtenLine putLine writtenLines textOf writtenText altsWrong? until headerBytes entriesFrom full? skip copiesWrong? headerWrong? linesOf judgeLines judgeText allDigits? isPos? valueFrom firstRow
+unfolding among? letterOf allLetters? anyPeriod? agree? weave merged rest plan recordsFrom totalScore chain? donorFrom edits score every? allowed? bestOf join first? better bestOver search run all?
+    shortest normalEntry digitsOf writtenLine putLine writtenLines textOf writtenText altsWrong? until headerBytes entriesFrom full? skip copiesWrong? headerWrong? linesOf judgeLines judgeText
+    allDigits? isPos? valueFrom firstRow
 overlap-holds = (six, (three, (six, tt)))

@@ -121,7 +121,8 @@ module _ {M : Type 1} (𝓤 : URA M) (H : Heap 𝓤) (A : Atoms 𝓤) (T : Ended
       via 𝓤 (sep 𝓤 (sem 𝓤 H A l) P) (comm∗ 𝓤 P (sem 𝓤 H A l))
       (via 𝓤 (sep 𝓤 (sem 𝓤 H A l) (⋆ 𝓤 H A Alive)) (monoR 𝓤 (sem 𝓤 H A l) (tokens-part 𝓤 H A (T .signature .lifetimes) (y .0 .0) (y .0 .1))) (push 𝓤 H A (‵ l) Alive))
 
-module _ {M : Type 1} {𝓤 : URA M} {H : Heap 𝓤} {A : Atoms 𝓤} {K : Type 0} (W : Given 𝓤 H A) {Γ : List (Item 𝓤)} {E : Env 𝓤 H} {C : Calls 𝓤 H} {Λ : Loops 𝓤 H} {q : Post 𝓤 H} {f : Name} {xs : List Operand} {d : Place} {rest : Body}
+module _ {M : Type 1} {𝓤 : URA M} {H : Heap 𝓤} {A : Atoms 𝓤} {K : Type 0} (W : Given 𝓤 H A) {Γ : List (Item 𝓤)} {E : Env 𝓤 H} {C : Calls 𝓤 H} {Λ : Loops 𝓤 H} {q : Post 𝓤 H} {f : Name}
+    {xs : List Operand} {d : Place} {rest : Body}
     (T : Ended) (c : Clauses 𝓤 T) (y : Met 𝓤 H A T c .Ghost) where
   pub passes : K → FmC 𝓤 H (W .laws) C → Triple 𝓤 (C f) (Met 𝓤 H A T c) → ent 𝓤 (emp 𝓤) (c (y .0 .0) (y .0 .3) .requires (y .1))
       → (ψ : Res (T .signature) (y .0 .0) → Lasts T (y .0 .0) (y .0 .3) → Type 0)

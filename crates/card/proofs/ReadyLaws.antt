@@ -30,7 +30,8 @@ pub record Answerable (reference first second : List ℕ) : Type 0 where
   pub clusters : length (planOf reference first second) ≤ leastRoom
   pub score : totalScore reference (clustersOf reference first second) ≤ leastRoom
 
-pub lists-answerable : (reference name first second : List ℕ) (small : Bool) → firstRefusal (listsChecks reference name first second small) .number ≡ 0 → Answerable reference first second × (small ≡ false)
+pub lists-answerable : (reference name first second : List ℕ) (small : Bool) → firstRefusal (listsChecks reference name first second small) .number ≡ 0 → Answerable reference first second
+    × (small ≡ false)
 lists-answerable reference name first second small z =
     let r = lists-read reference name first small second z in
     let most = entries-most reference name first second (r .0 .accepted) (r .1) in (

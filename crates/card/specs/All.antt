@@ -40,7 +40,8 @@ emptyPlan = replicate leastRoom (record { first = 0; count = 0 })
 module _ (reference name first second : List ℕ) (plan : List Cluster) (marks : List ℕ) where
   -- The lent records and the lent marks afterwards.
   abbrev pub allPlan : List Cluster
-  allPlan = pick (eqb (allRefusal reference name first second (length plan) (length marks) .number) 0) (put plan 0 (planOf reference first second)) plan
+  allPlan = pick (eqb (allRefusal reference name first second (length plan) (length marks) .number) 0)
+      (put plan 0 (planOf reference first second)) plan
 
   abbrev pub allBytes : List ℕ
   allBytes =

@@ -1,5 +1,5 @@
--- Asked for an allele, the card copies nothing: allele 0 is shown as a part of the reference, allele 1 or 2 as a part of the list's text. Where that is
--- refused, it shows the empty part at the start of the reference.
+-- Asked for an allele, the card copies nothing: allele 0 is shown as a part of the reference, allele 1 or 2 as a part of the list's text.
+-- Where that is refused, it shows the empty part at the start of the reference.
 -- Assumes nothing: these are definitions.
 use mathlib.Core.Bool.{Bool, true, false, _||_}
 use mathlib.Core.List.{List, [], _∷_}

@@ -43,4 +43,5 @@ module _ (reference name first second marks : List ℕ) where
 
   -- What the marks of each list's entries count, or the refusal and six zeros.
   abbrev pub counted : Counted
-  counted = countedOf (refusedAnswer countRefusal) (pick (eqb (countRefusal .number) 0) (countsOf (mergedItems first second) marks) noCounts)
+  counted = countedOf (refusedAnswer countRefusal)
+      (pick (eqb (countRefusal .number) 0) (countsOf (mergedItems first second) marks) noCounts)

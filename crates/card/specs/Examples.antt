@@ -35,8 +35,8 @@ text ls = ascii "##fileformat=VCFv4.2\n#CHROM\tPOS\tID\tREF\tALT\tQUAL\tFILTER\t
 abbrev pub cluster : ℕ → ℕ → Cluster
 cluster first count = record { first = first; count = count }
 
--- What an example says on a reference: of a list its normal text; or of two lists their plan, their marks and the score, which is summed over
--- decided clusters.
+-- What an example says on a reference: of a list its normal text; or of two lists their plan, their marks and the score, which is summed
+-- over decided clusters.
 pub data Example : Type 0 where
   normal : String → List ℕ → List ℕ → Example
   marks : String → List ℕ → List ℕ → List Cluster → String → ℕ → Example

@@ -1,4 +1,5 @@
--- What is turned away: the three numbers of a refusal, and the first of a call's refusals in document 01's order: 1; 2; list 1; list 2; 17; 16; 18.
+-- What is turned away: the three numbers of a refusal, and the first of a call's refusals in document 01's order: 1; 2; list 1; list 2; 17;
+-- 16; 18.
 -- Assumes nothing: these are definitions.
 use mathlib.Core.Bool.{Bool, not}
 use mathlib.Core.List.{List, [], _∷_, _++_}

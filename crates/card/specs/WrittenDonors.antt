@@ -1,5 +1,5 @@
--- Demand 2 of a written list: its entries are those read in normal form, and each of them, chosen alone, gives the same donor as the entry read.
--- Nothing is said of several chosen together: shifting left can move one entry onto another (examples/overlap).
+-- Demand 2 of a written list: its entries are those read in normal form, and each of them, chosen alone, gives the same donor as the entry
+-- read. Nothing is said of several chosen together: shifting left can move one entry onto another (examples/overlap).
 -- Assumes nothing: these are definitions.
 use mathlib.Core.Bool.{Bool}
 use mathlib.Core.List.{List, [], _∷_}
@@ -24,8 +24,8 @@ abbrev pub SameAlone : List ℕ → List ℕ → List ℕ → Entry → Entry �
 SameAlone reference t w e n =
     (side : Bool) (c : Choice) (h : Copy) → donorAlone reference t side e c h ≡ donorAlone reference w side n c h
 
--- What is so of the list w that is written for an accepted list t: it is accepted too, its entries are those of t in normal form, each gives the
--- same donor alone, and writing it again changes nothing.
+-- What is so of the list w that is written for an accepted list t: it is accepted too, its entries are those of t in normal form, each
+-- gives the same donor alone, and writing it again changes nothing.
 pub record WrittenSame (reference name t w : List ℕ) : Type 0 where
   pub accepted : judgeText reference name w .number ≡ 0
   pub entries : EntriesNormal reference t w

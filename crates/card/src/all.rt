@@ -33,8 +33,8 @@ fn all_marked(answer: Answer, clusters: u32, score: u32) -> AllMarked
     }
 }
 
-// Plans two lists and marks every cluster: leaves what `plan` and then `mark` of each cluster leave. `plan` and `marks` have to have room for 1,024. Rows: 1;
-// 2; list 1; list 2.
+// Plans two lists and marks every cluster: leaves what `plan` and then `mark` of each cluster leave. `plan` and `marks` have to have room
+// for 1,024. Rows: 1; 2; list 1; list 2.
 pub fn mark_all(
     reference: &[u8],
     name: &[u8],
@@ -43,7 +43,15 @@ pub fn mark_all(
     plan: &mut [Cluster],
     marks: &mut [u8],
 ) -> AllMarked
-    ensures { λ r. ⌜ (r ≡ allAnswered (now (reference .entry)) (now (name .entry)) (now (first .entry)) (now (second .entry)) (length (now (plan .entry))) (length (now (marks .entry)))) × (now (plan .exit) ≡ allPlan (now (reference .entry)) (now (name .entry)) (now (first .entry)) (now (second .entry)) (now (plan .entry)) (now (marks .entry))) × (now (marks .exit) ≡ allBytes (now (reference .entry)) (now (name .entry)) (now (first .entry)) (now (second .entry)) (now (plan .entry)) (now (marks .entry))) ⌝ }
+    ensures { λ r. ⌜
+        (r ≡ allAnswered (now (reference .entry)) (now (name .entry)) (now (first .entry)) (now (second .entry))
+        (length (now (plan .entry))) (length (now (marks .entry))))
+        × (now (plan .exit) ≡ allPlan (now (reference .entry)) (now (name .entry)) (now (first .entry)) (now (second .entry))
+        (now (plan .entry)) (now (marks .entry)))
+        × (now (marks .exit)
+        ≡ allBytes (now (reference .entry)) (now (name .entry)) (now (first .entry)) (now (second .entry)) (now (plan .entry))
+        (now (marks .entry)))
+        ⌝ }
 {
     let small = is_small(plan.len(), marks.len());
     let refused = lists_refused(reference, name, first, second, small);
@@ -69,7 +77,15 @@ pub fn marked_lists(
     second: &[u8],
     marks: &mut [u8],
 ) -> MarkedLists
-    ensures { λ r. ⌜ (r .answer ≡ allAnswered (now (reference .entry)) (now (name .entry)) (now (first .entry)) (now (second .entry)) leastRoom (length (now (marks .entry)))) × (r .plan ≡ allPlan (now (reference .entry)) (now (name .entry)) (now (first .entry)) (now (second .entry)) emptyPlan (now (marks .entry))) × (now (marks .exit) ≡ allBytes (now (reference .entry)) (now (name .entry)) (now (first .entry)) (now (second .entry)) emptyPlan (now (marks .entry))) ⌝ }
+    ensures { λ r. ⌜
+        (r .answer ≡ allAnswered (now (reference .entry)) (now (name .entry)) (now (first .entry)) (now (second .entry)) leastRoom
+        (length (now (marks .entry))))
+        × (r .plan ≡ allPlan (now (reference .entry)) (now (name .entry)) (now (first .entry)) (now (second .entry)) emptyPlan
+        (now (marks .entry)))
+        × (now (marks .exit)
+        ≡ allBytes (now (reference .entry)) (now (name .entry)) (now (first .entry)) (now (second .entry)) emptyPlan
+        (now (marks .entry)))
+        ⌝ }
 {
     let mut plan = [Cluster { first: 0, count: 0 }; LEAST];
     let answer = mark_all(reference, name, first, second, &mut plan, marks);

@@ -13,7 +13,8 @@ use vcf::entry::entry_at;
 use vcf::entry::record_at;
 use vcf::list::judge;
 
-// Where an allele stands: a part of the text or of the reference; or why it is not shown, with the empty part at the start of the reference.
+// Where an allele stands: a part of the text or of the reference; or why it is not shown, with the empty part at the start of the
+// reference.
 pub struct Shown {
     pub refusal: Refusal,
     pub text: bool,
@@ -106,8 +107,8 @@ pub fn allele_refusal(
     r
 }
 
-// Allele k of entry i: a part of the reference where k is 0, else a part of the text. Where that is refused, the empty part at the start of the
-// reference. Nothing is copied.
+// Allele k of entry i: a part of the reference where k is 0, else a part of the text. Where that is refused, the empty part at the start of
+// the reference. Nothing is copied.
 pub fn allele<'a>(
     reference: &'a [u8],
     name: &[u8],

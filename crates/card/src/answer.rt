@@ -2,8 +2,8 @@
 ghost use mathlib.Core.Path.{_≡_};
 ghost use Rattle.card.specs.Answer.{answer};
 
-// Four numbers. Where the call is refused: the number, list and line of the refusal, and value 0. Where it is answered: number 0, and what list, line
-// and value mean is said at the call.
+// Four numbers. Where the call is refused: the number, list and line of the refusal, and value 0. Where it is answered: number 0, and what
+// list, line and value mean is said at the call.
 #[repr(C)]
 pub struct Answer {
     pub number: u32,

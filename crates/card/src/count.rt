@@ -9,7 +9,8 @@ use clusters::count::Count;
 use clusters::count::Counts;
 use clusters::count::count_lists;
 
-// What is answered: the three numbers of a refusal, or zeros; then how many entries of list 1 are matched, unmatched and undecided, and how many of list 2.
+// What is answered: the three numbers of a refusal, or zeros; then how many entries of list 1 are matched, unmatched and undecided, and how
+// many of list 2.
 #[repr(C)]
 pub struct Counted {
     pub number: u32,
@@ -25,7 +26,10 @@ pub struct Counted {
 
 // An answer's first three numbers, with these counts.
 fn counted_of(answer: Answer, counts: Counts) -> Counted
-    requires { ⌜ Few (counts .first) × Few (counts .second) ⌝ }
+    requires { ⌜
+        Few (counts .first)
+        × Few (counts .second)
+        ⌝ }
     ensures { λ r. ⌜ r ≡ countedOf answer counts ⌝ }
 {
     let first = counts.first;
@@ -43,10 +47,12 @@ fn counted_of(answer: Answer, counts: Counts) -> Counted
     }
 }
 
-// Counts the marks of two lists, of which there have to be 1,024. Rows: 1; 2; list 1; list 2. A byte that is none of `+`, `-`, `0` and `?` is counted nowhere, and
-// bytes behind the entries are not looked at. Refused: six zeros.
+// Counts the marks of two lists, of which there have to be 1,024. Rows: 1; 2; list 1; list 2. A byte that is none of `+`, `-`, `0` and `?`
+// is counted nowhere, and bytes behind the entries are not looked at. Refused: six zeros.
 pub fn count(reference: &[u8], name: &[u8], first: &[u8], second: &[u8], marks: &[u8]) -> Counted
-    ensures { λ r. ⌜ r ≡ counted (now (reference .entry)) (now (name .entry)) (now (first .entry)) (now (second .entry)) (now (marks .entry)) ⌝ }
+    ensures { λ r. ⌜
+        r ≡ counted (now (reference .entry)) (now (name .entry)) (now (first .entry)) (now (second .entry)) (now (marks .entry))
+        ⌝ }
 {
     let refused = lists_refused(reference, name, first, second, marks.len() < LEAST);
     if refused.number != 0 {

@@ -1,4 +1,5 @@
-// Are the lists of a call turned away? Each answer has the three numbers of the first row that holds, number 0 where none does, and value 0.
+// Are the lists of a call turned away? Each answer has the three numbers of the first row that holds, number 0 where none does, and value
+// 0.
 ghost use mathlib.Core.Path.{_≡_};
 ghost use Rattle.card.specs.Answer.{refusedAnswer};
 ghost use Rattle.card.specs.Mark.{smallRoom?};
@@ -10,7 +11,9 @@ use vcf::list::judge;
 
 // The rows of a call with one list: 1; 2, where lent room is too small; list 1.
 pub fn list_refused(reference: &[u8], name: &[u8], text: &[u8], small: bool) -> Answer
-    ensures { λ r. ⌜ r ≡ refusedAnswer (firstRefusal (listChecks (now (reference .entry)) (now (name .entry)) (now (text .entry)) small)) ⌝ }
+    ensures { λ r. ⌜
+        r ≡ refusedAnswer (firstRefusal (listChecks (now (reference .entry)) (now (name .entry)) (now (text .entry)) small))
+        ⌝ }
 {
     if !is_reference(reference) {
         return refuse(1, 0, 0);
@@ -33,7 +36,10 @@ pub fn lists_refused(
     second: &[u8],
     small: bool,
 ) -> Answer
-    ensures { λ r. ⌜ r ≡ refusedAnswer (firstRefusal (listsChecks (now (reference .entry)) (now (name .entry)) (now (first .entry)) (now (second .entry)) small)) ⌝ }
+    ensures { λ r. ⌜
+        r ≡ refusedAnswer (firstRefusal
+        (listsChecks (now (reference .entry)) (now (name .entry)) (now (first .entry)) (now (second .entry)) small))
+        ⌝ }
 {
     let refused = list_refused(reference, name, first, small);
     if refused.number != 0 {

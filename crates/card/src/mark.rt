@@ -29,8 +29,19 @@ fn mark_planned(
     cluster: usize,
     marks: &mut [u8],
 ) -> Answer
-    requires { ⌜ Ready (now reference) (now first) (now second) (startHeads (now first) (now second)) × (length (now reference) ≤ longestReference) × (length (mergedItems (now first) (now second)) ≤ length (now marks)) ⌝ }
-    ensures { λ r. ⌜ (r ≡ answerAsked same (askedFor (now (reference .entry)) (clustersOf (now (reference .entry)) (now (first .entry)) (now (second .entry))) cluster)) × (now (marks .exit) ≡ pick same (marksAfter (now (reference .entry)) (clustersOf (now (reference .entry)) (now (first .entry)) (now (second .entry))) cluster (now (marks .entry))) (now (marks .entry))) ⌝ }
+    requires { ⌜
+        Ready (now reference) (now first) (now second) (startHeads (now first) (now second))
+        × (length (now reference) ≤ longestReference)
+        × (length (mergedItems (now first) (now second)) ≤ length (now marks))
+        ⌝ }
+    ensures { λ r. ⌜
+        (r ≡ answerAsked same
+        (askedFor (now (reference .entry)) (clustersOf (now (reference .entry)) (now (first .entry)) (now (second .entry))) cluster))
+        × (now (marks .exit)
+        ≡ pick same (marksAfter (now (reference .entry))
+        (clustersOf (now (reference .entry)) (now (first .entry)) (now (second .entry))) cluster (now (marks .entry)))
+        (now (marks .entry)))
+        ⌝ }
 {
     if !same {
         return refuse(17, 0, 0);
@@ -45,8 +56,9 @@ fn mark_planned(
     give(told.score as u32)
 }
 
-// Marks the entries of one cluster: `+`, `-` or `0` as the best pair over the two whole lists has it, or `?` where the cluster is undecided. `marks` has to
-// have room for 1,024. Rows: 1; 2; list 1; list 2; 17; 16. Value: the cluster's score, or UNDECIDED. No other mark changes.
+// Marks the entries of one cluster: `+`, `-` or `0` as the best pair over the two whole lists has it, or `?` where the cluster is
+// undecided. `marks` has to have room for 1,024. Rows: 1; 2; list 1; list 2; 17; 16. Value: the cluster's score, or UNDECIDED. No other
+// mark changes.
 pub fn mark(
     reference: &[u8],
     name: &[u8],
@@ -56,7 +68,13 @@ pub fn mark(
     cluster: usize,
     marks: &mut [u8],
 ) -> Answer
-    ensures { λ r. ⌜ (r ≡ marked (now (reference .entry)) (now (name .entry)) (now (first .entry)) (now (second .entry)) (now (plan .entry)) cluster (length (now (marks .entry)))) × (now (marks .exit) ≡ markAfter (now (reference .entry)) (now (name .entry)) (now (first .entry)) (now (second .entry)) (now (plan .entry)) cluster (now (marks .entry))) ⌝ }
+    ensures { λ r. ⌜
+        (r ≡ marked (now (reference .entry)) (now (name .entry)) (now (first .entry)) (now (second .entry)) (now (plan .entry)) cluster
+        (length (now (marks .entry))))
+        × (now (marks .exit)
+        ≡ markAfter (now (reference .entry)) (now (name .entry)) (now (first .entry)) (now (second .entry)) (now (plan .entry)) cluster
+        (now (marks .entry)))
+        ⌝ }
 {
     let small = is_small(plan.len(), marks.len());
     let refused = lists_refused(reference, name, first, second, small);

@@ -9,8 +9,8 @@ use crate::lists::lists_refused;
 use clusters::plan::Cluster;
 use clusters::plan::fill_plan;
 
-// Cuts two lists into clusters, and writes the plan's records, one a cluster, into `plan`, which has to have room for 1,024. Rows: 1; 2; list 1; list 2.
-// Value: the number of clusters. No other record changes.
+// Cuts two lists into clusters, and writes the plan's records, one a cluster, into `plan`, which has to have room for 1,024. Rows: 1; 2;
+// list 1; list 2. Value: the number of clusters. No other record changes.
 pub fn plan(
     reference: &[u8],
     name: &[u8],
@@ -18,7 +18,11 @@ pub fn plan(
     second: &[u8],
     plan: &mut [Cluster],
 ) -> Answer
-    ensures { λ r. ⌜ (r ≡ planned (now (reference .entry)) (now (name .entry)) (now (first .entry)) (now (second .entry)) (length (now (plan .entry)))) × (now (plan .exit) ≡ planAfter (now (reference .entry)) (now (name .entry)) (now (first .entry)) (now (second .entry)) (now (plan .entry))) ⌝ }
+    ensures { λ r. ⌜
+        (r ≡ planned (now (reference .entry)) (now (name .entry)) (now (first .entry)) (now (second .entry)) (length (now (plan .entry))))
+        × (now (plan .exit) ≡ planAfter (now (reference .entry)) (now (name .entry)) (now (first .entry)) (now (second .entry))
+        (now (plan .entry)))
+        ⌝ }
 {
     let refused = lists_refused(reference, name, first, second, plan.len() < LEAST);
     if refused.number != 0 {

@@ -59,7 +59,8 @@ module _ (reference name text : List ℕ) (i k : ℕ) where
       pick-part true at len = refl
       pick-part false at len = refl
 
-      go : Dec (alleleRefusal reference name text i k .number ≡ 0) → bytesShown reference text (shown reference name text i k) ≡ take (answered .value) (drop (answered .line) (pick (eqb (answered .list) 1) text reference))
+      go : Dec (alleleRefusal reference name text i k .number ≡ 0) → bytesShown reference text (shown reference name text i k)
+          ≡ take (answered .value) (drop (answered .line) (pick (eqb (answered .list) 1) text reference))
       go (yes e) =
           let s = shown reference name text i k in
           rw (answer-there s (ap (λ (r : Refusal). r .number) (shown-refusal reference name text i k) ∙ e)) (pick-part (s .text) (s .part .at) (s .part .len))

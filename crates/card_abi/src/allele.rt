@@ -6,8 +6,8 @@ use card::allele::allele_shown;
 use card::answer::Answer;
 use card::answer::refuse;
 
-// Where allele k of entry i stands. Answered: number 0, list 0 for a part of the reference and 1 for a part of the text, line where that part starts
-// there, and value its length.
+// Where allele k of entry i stands. Answered: number 0, list 0 for a part of the reference and 1 for a part of the text, line where that
+// part starts there, and value its length.
 #[no_mangle]
 pub extern "C" fn card_allele(
     reference: &[u8],

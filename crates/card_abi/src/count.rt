@@ -13,7 +13,9 @@ pub extern "C" fn card_count(
     second: &[u8],
     marks: &[u8],
 ) -> Counted
-    ensures { λ r. ⌜ r ≡ counted (now (reference .entry)) (now (name .entry)) (now (first .entry)) (now (second .entry)) (now (marks .entry)) ⌝ }
+    ensures { λ r. ⌜
+        r ≡ counted (now (reference .entry)) (now (name .entry)) (now (first .entry)) (now (second .entry)) (now (marks .entry))
+        ⌝ }
 {
     count(reference, name, first, second, marks)
 }

@@ -15,7 +15,11 @@ pub extern "C" fn card_plan(
     second: &[u8],
     plan: &mut [Cluster],
 ) -> Answer
-    ensures { λ r. ⌜ (r ≡ planned (now (reference .entry)) (now (name .entry)) (now (first .entry)) (now (second .entry)) (length (now (plan .entry)))) × (now (plan .exit) ≡ planAfter (now (reference .entry)) (now (name .entry)) (now (first .entry)) (now (second .entry)) (now (plan .entry))) ⌝ }
+    ensures { λ r. ⌜
+        (r ≡ planned (now (reference .entry)) (now (name .entry)) (now (first .entry)) (now (second .entry)) (length (now (plan .entry))))
+        × (now (plan .exit) ≡ planAfter (now (reference .entry)) (now (name .entry)) (now (first .entry)) (now (second .entry))
+        (now (plan .entry)))
+        ⌝ }
 {
     plan_lists(reference, name, first, second, plan)
 }

@@ -25,7 +25,8 @@ use ghost.Atoms.{Atoms, sem}
 use contract.Monad.{fact}
 use contract.Lifetimes.{Lfts, Shares, toks}
 use sound.WpLaws.{FmC}
-use types.Kit.{Given, Item, ‵, raw, _⊛_, some, later, ⋆, Post, Goal, runs, lands, frees, Seq, Step, step, _$_, _∵_, !, qed, by, move, drop, use0, use1, use2, split, join, pick, rewrite, fsplit, fjoin, frame, await, done}
+use types.Kit.{Given, Item, ‵, raw, _⊛_, some, later, ⋆, Post, Goal, runs, lands, frees, Seq, Step, step, _$_, _∵_, !, qed, by, move, drop, use0, use1, use2, split, join, pick, rewrite, fsplit, fjoin}
+use types.Kit.{frame, await, done}
 use types.Run.{Opds, forget, free1}
 use denote.RattleType.{RattleType, Denots, Valss, owns}
 use denote.Laws.{Is, shows, Tells, Ises, Are, Makess, owns-make}
@@ -101,7 +102,8 @@ became S spell tell r s v is e =
     let spelled : v ≡ spell s = ap only (tell r (v ∷ []) is) ∙ ap spell e in
     (spelled, subst (λ (u : Val). Is S s (u ∷ [])) spelled (subst (λ (z : S .Denot). Is S z (v ∷ [])) e is))
 
-module _ {M : Type 1} {𝓤 : URA M} {H : Heap 𝓤} {A : Atoms 𝓤} {K : Type 0} {W : Given 𝓤 H A} {Γ : List (Item 𝓤)} {E : Env 𝓤 H} {C : Calls 𝓤 H} {Λ : Loops 𝓤 H} {q : Post 𝓤 H} {f : Name} {xs : List Operand} {d : Place} {rest : Body} where
+module _ {M : Type 1} {𝓤 : URA M} {H : Heap 𝓤} {A : Atoms 𝓤} {K : Type 0} {W : Given 𝓤 H A} {Γ : List (Item 𝓤)} {E : Env 𝓤 H} {C : Calls 𝓤 H} {Λ : Loops 𝓤 H} {q : Post 𝓤 H} {f : Name}
+    {xs : List Operand} {d : Place} {rest : Body} where
   pub tells-values : K → FmC 𝓤 H (W .laws) C → (T : Ended) (c : Clauses 𝓤 T) → Triple 𝓤 (C f) (Met 𝓤 H A T c) → (y : Met 𝓤 H A T c .Ghost)
       → Asks 𝓤 H A T c y → ent 𝓤 (emp 𝓤) (alive 𝓤 H A (T .signature) (y .0 .0) (y .0 .1))
       → Makess 𝓤 H A (Params 𝓤 H A T c y) (Ises (Params 𝓤 H A T c y)) → Are (Params 𝓤 H A T c y) (Ises (Params 𝓤 H A T c y)) (y .0 .3) (y .0 .4)
@@ -146,7 +148,8 @@ module _ {M : Type 1} (𝓤 : URA M) (H : Heap 𝓤) (A : Atoms 𝓤) (W : Given
         → ent 𝓤 (sep 𝓤 (sem 𝓤 H A (owns Ts a vss)) (sem 𝓤 H A (R .own x vs))) (sem 𝓤 H A (owns (Ts ++ (R ∷ [])) (lastIn Ts R a x) (lastVals Ts R vss vs)))
     last-in [] a vss = qed W (‵ ftrue ∷ ‵ (R .own x vs) ∷ []) ∵ move ! (1 ∷ 0 ∷ []) $ done !
     last-in (T ∷ Ts) a vss =
-        qed W (‵ (owns (T ∷ Ts) a vss) ∷ ‵ (R .own x vs) ∷ []) ∵ fsplit ! $ frame ! $ use2 W (‵ (owns (Ts ++ (R ∷ [])) (lastIn Ts R (a .1) x) (lastVals Ts R (vss .1) vs))) (last-in Ts (a .1) (vss .1)) $ done !
+        qed W (‵ (owns (T ∷ Ts) a vss) ∷ ‵ (R .own x vs) ∷ []) ∵ fsplit ! $ frame ! $ use2 W (‵ (owns (Ts ++ (R ∷ [])) (lastIn Ts R (a .1) x) (lastVals Ts R (vss .1) vs))) (last-in Ts (a .1) (vss .1))
+        $ done !
 
   module _ (κ : Lft) (q : Share) where
     pub token-out : (n : ℕ) (κs : Lfts n) (qs : Shares n) → ent 𝓤 (toks 𝓤 A (suc n) (lastLft n κs κ) (lastShare n qs q)) (sep 𝓤 (toks 𝓤 A n κs qs) (A .lft κ q))

@@ -64,7 +64,11 @@ plan-few reference first second =
     )
 
 pub same-cluster : (c d : Cluster) → T (sameCluster? c d) ↔ (c ≡ d)
-same-cluster c d = (λ h. equal (both (eqb (c .first) (d .first)) (eqb (c .count) (d .count)) .0 h), λ e. rw e (both (eqb (d .first) (d .first)) (eqb (d .count) (d .count)) .1 (eqb-refl (d .first), eqb-refl (d .count))))
+same-cluster c d = (
+  λ h. equal (both (eqb (c .first) (d .first)) (eqb (c .count) (d .count)) .0 h),
+  λ e. rw e
+      (both (eqb (d .first) (d .first)) (eqb (d .count) (d .count)) .1 (eqb-refl (d .first), eqb-refl (d .count))),
+)
   where
     equal : T (eqb (c .first) (d .first)) × T (eqb (c .count) (d .count)) → c ≡ d
     equal h = ap₂ (λ (f n : ℕ). record { first = f; count = n }) (eqb→eq (c .first) (d .first) (h .0)) (eqb→eq (c .count) (d .count) (h .1))

@@ -113,7 +113,8 @@ module _ (xs : Refs) where
   Good k = Is S (step-at k) (Walk″.lowered (step-at k) ∷ [])
 
   -- each step that the plan has a record for, and the one behind the last
-  pub stands : {m : ℕ} (k : ℕ) → Asked m → k < length P → Stands (xs .0 .now) (xs .1 .0 .now) (xs .1 .1 .0 .now) (0 + length (itemsFrom (xs .1 .0 .now) (xs .1 .1 .0 .now) heads)) (getD P k none) (step-at k)
+  pub stands : {m : ℕ} (k : ℕ) → Asked m → k < length P
+      → Stands (xs .0 .now) (xs .1 .0 .now) (xs .1 .1 .0 .now) (0 + length (itemsFrom (xs .1 .0 .now) (xs .1 .1 .0 .now) heads)) (getD P k none) (step-at k)
   stands k asked less = walk-stands (xs .0 .now) (xs .1 .0 .now) (xs .1 .1 .0 .now) k 0 heads none (asked .0) less
 
   pub over : (k : ℕ) → k ≡ length P → step-at k .more ≡ false
@@ -130,7 +131,8 @@ texts κs xs = owns (Texts κs) xs (vals xs)
 
 module _ {M : Type 1} (𝓤 : URA M) (H : Heap 𝓤) (A : Atoms 𝓤) (W : Given 𝓤 H A) (κs : Lfts 3) (xs : Refs) where
   texts-twice : ent 𝓤 (⋆ 𝓤 H A (‵ (texts κs xs) ∷ [])) (⋆ 𝓤 H A (‵ (texts κs xs) ∷ ‵ (texts κs xs) ∷ []))
-  texts-twice = twices 𝓤 H A W (Texts κs) (shr-slice-copy 𝓤 H A W (named 0) (κs .0) u8, (shr-slice-copy 𝓤 H A W (named 1) (κs .1 .0) u8, (shr-slice-copy 𝓤 H A W (named 2) (κs .1 .1 .0) u8, tt))) xs (vals xs)
+  texts-twice = twices 𝓤 H A W (Texts κs) (shr-slice-copy 𝓤 H A W (named 0) (κs .0) u8, (shr-slice-copy 𝓤 H A W (named 1) (κs .1 .0) u8, (shr-slice-copy 𝓤 H A W (named 2) (κs .1 .1 .0) u8, tt))) xs
+      (vals xs)
 
 module _ {M : Type 1} (𝓤 : URA M) (H : Heap 𝓤) (A : Atoms 𝓤) (mem : Memory → SProp 𝓤) (run : Routine → Fun 𝓤) (κs : Lfts 3) (qs : Shares 3) (xs : Refs) where
   -- what the two calls are passed
@@ -161,9 +163,12 @@ module _ {M : Type 1} (𝓤 : URA M) (H : Heap 𝓤) (A : Atoms 𝓤) (W : Given
   goes-on t known m asked i less good opds k =
       let w = step-at xs i in
       let s = stands xs {m = m} i asked less in
-      let fits : w .cluster .first + w .cluster .count + length (itemsFrom (xs .1 .0 .now) (xs .1 .1 .0 .now) (w .heads)) < 2 ^ 32 = omega (arith, s .fits, start-fits (xs .0 .now) (xs .1 .0 .now) (xs .1 .1 .0 .now) (asked .0)) in
-      move t (1 ∷ []) $ use1 W (‵ (texts κs xs) ⊛ ‵ (texts κs xs)) (texts-twice 𝓤 H A W κs xs) $ split t $ owned t S (Is S) ((LL.makes Walk′.the-type Walk″.the-plain) 𝓤 H A) w (Walk″.lowered w ∷ []) good $ move t (1 ∷ 0 ∷ []) $
-      use2 W (‵ (owns (Texts κs ++ (S ∷ [])) (lastIn (Texts κs) S xs w) (lastVals (Texts κs) S (vals xs) (Walk″.lowered w ∷ [])))) (last-in 𝓤 H A W S w (Walk″.lowered w ∷ []) (Texts κs) xs (vals xs)) $ move t (2 ∷ 0 ∷ []) $
+      let fits : w .cluster .first + w .cluster .count + length (itemsFrom (xs .1 .0 .now) (xs .1 .1 .0 .now) (w .heads)) < 2 ^ 32 =
+      omega (arith, s .fits, start-fits (xs .0 .now) (xs .1 .0 .now) (xs .1 .1 .0 .now) (asked .0)) in
+      move t (1 ∷ []) $ use1 W (‵ (texts κs xs) ⊛ ‵ (texts κs xs)) (texts-twice 𝓤 H A W κs xs) $ split t $
+      owned t S (Is S) ((LL.makes Walk′.the-type Walk″.the-plain) 𝓤 H A) w (Walk″.lowered w ∷ []) good $ move t (1 ∷ 0 ∷ []) $
+      use2 W (‵ (owns (Texts κs ++ (S ∷ [])) (lastIn (Texts κs) S xs w) (lastVals (Texts κs) S (vals xs) (Walk″.lowered w ∷ [])))) (last-in 𝓤 H A W S w (Walk″.lowered w ∷ []) (Texts κs) xs (vals xs))
+      $ move t (2 ∷ 0 ∷ []) $
       asks t (fmOf 𝓤 H (W .laws) 𝓣) next-walk.ended (next-walk.clauses 𝓤 H A mem run) known (to-next 𝓤 H A mem run κs qs xs w)
       (factI 𝓤 _ _ (s .ready, fits)) (λ (r : Walk). r ≡ nextWalk (xs .0 .now) (xs .1 .0 .now) (xs .1 .1 .0 .now) w) (λ r ws. refl) opds (λ r v is e.
       let came = became r (step-at xs (i + 1)) v is (e ∙ walk-next (xs .0 .now) (xs .1 .0 .now) (xs .1 .1 .0 .now) i 0 (heads xs)) in

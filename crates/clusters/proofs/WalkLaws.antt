@@ -92,7 +92,8 @@ module _ (reference first second : List ℕ) (h : Heads) where
       size : sizeOf cardRules (variant reference first second next) ≡ itemSize next
       size = item-size reference first second next (next-sound reference first second h ready more?)
 
-      pub left-more : (c : Current) → cut? (basesOf reference) c (itemSize next .start) ≡ false → leftFrom reference first second c h ≡ leftFrom reference first second (more c (itemSize next)) behind + 1
+      pub left-more : (c : Current) → cut? (basesOf reference) c (itemSize next .start) ≡ false → leftFrom reference first second c h
+          ≡ leftFrom reference first second (more c (itemSize next)) behind + 1
       left-more c e =
           ap (λ (xs : List Variant). left cardRules (basesOf reference) c xs) variants-step
           ∙ first-more cardRules (basesOf reference) c (variant reference first second next) (variantsFrom reference first second behind) e

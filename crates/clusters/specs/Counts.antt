@@ -1,5 +1,5 @@
--- What marks count: the entries marked `+` or `-`, those marked `0`, and those marked `?`; in each list, and over both. A byte that is none of these marks is
--- counted nowhere.
+-- What marks count: the entries marked `+` or `-`, those marked `0`, and those marked `?`; in each list, and over both. A byte that is none
+-- of these marks is counted nowhere.
 -- Assumes nothing: these are definitions.
 use mathlib.Core.Bool.{Bool, true, false, Bool·beq, _||_}
 use mathlib.Core.List.{List, [], _∷_}

@@ -1,6 +1,6 @@
 -- The gap rule. Document 01: for the current cluster keep b, the largest end, and for each list j the sums A_j and B_j. Let
--- g = max(B_1 + A_2, B_2 + A_1). Before the next entry, with start p, cut exactly if p >= b and either g = 0, or the gap from b to p is longer
--- than g and has no period q with 1 <= q <= g. After a cut b and the sums begin again.
+-- g = max(B_1 + A_2, B_2 + A_1). Before the next entry, with start p, cut exactly if p >= b and either g = 0, or the gap from b to p is
+-- longer than g and has no period q with 1 <= q <= g. After a cut b and the sums begin again.
 -- Assumes nothing: these are definitions.
 use mathlib.Core.Bool.{Bool, Bool·beq, not, _&&_, _||_}
 use mathlib.Core.List.{List}

@@ -65,8 +65,8 @@ itemSize i =
       grow = max (lenOf e (e .copy0)) (lenOf e (e .copy1)) - e .reference .len;
     }
 
--- What is so of each entry of an accepted list, as far as a walk leans on it: there is a POS, REF is not empty and lies inside the reference, and the
--- numbers say how long the copies' alleles are, none of which is empty or longer than an allele may be.
+-- What is so of each entry of an accepted list, as far as a walk leans on it: there is a POS, REF is not empty and lies inside the
+-- reference, and the numbers say how long the copies' alleles are, none of which is empty or longer than an allele may be.
 pub record Sound (reference text : List ℕ) (e : Entry) : Type 0 where
   pub pos : 1 ≤ e .pos .0
   pub some : 1 ≤ e .reference .len

@@ -1,4 +1,5 @@
--- The plan as records that are given: are they the plan of these lists? Document 01: only the first records, as many as there are clusters, are judged.
+-- The plan as records that are given: are they the plan of these lists? Document 01: only the first records, as many as there are clusters,
+-- are judged.
 -- Assumes nothing: these are definitions.
 use mathlib.Core.Bool.{Bool, true, false, _&&_}
 use mathlib.Core.List.{List, [], _∷_}

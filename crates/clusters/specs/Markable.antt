@@ -13,7 +13,8 @@ use Rattle.clusters.specs.Heads.{Ready}
 abbrev pub donorRoom : ℕ
 donorRoom = longestReference + most * longestAllele
 
--- The entries from the cursors on can be read, and the search has room for any cluster of them: a table of so many numbers, and two buffers of so many bytes.
+-- The entries from the cursors on can be read, and the search has room for any cluster of them: a table of so many numbers, and two buffers
+-- of so many bytes.
 pub record Markable (reference first second : List ℕ) (h : Heads) (table space1 space2 : ℕ) : Type 0 where
   pub ready : Ready reference first second h
   pub short : length reference ≤ longestReference

@@ -1,4 +1,5 @@
--- Entries in merged order as rows of the table that the search reads: nine numbers an entry; and the stretch of the reference where they lie.
+-- Entries in merged order as rows of the table that the search reads: nine numbers an entry; and the stretch of the reference where they
+-- lie.
 -- Assumes nothing: these are definitions.
 use mathlib.Core.Bool.{true, false}
 use mathlib.Core.List.{List, [], _∷_, _++_}

@@ -21,7 +21,10 @@ pub struct Found {
 
 // The cluster that begins with the next entry. There is one.
 pub fn next_cluster(reference: &[u8], first: &[u8], second: &[u8], heads: Heads) -> Found
-    requires { ⌜ (done? (now first) (now second) heads ≡ false) × Ready (now reference) (now first) (now second) heads ⌝ }
+    requires { ⌜
+        (done? (now first) (now second) heads ≡ false)
+        × Ready (now reference) (now first) (now second) heads
+        ⌝ }
     ensures { λ r. ⌜ r ≡ foundAt (now (reference .entry)) (now (first .entry)) (now (second .entry)) heads ⌝ }
 {
     let item = next_item(first, second, heads);
@@ -50,7 +53,10 @@ pub struct Skipped {
 // Behind the first k clusters of two lists; where there are fewer, behind the last.
 pub fn skip_clusters(reference: &[u8], first: &[u8], second: &[u8], k: usize) -> Skipped
     requires { ⌜ Ready (now reference) (now first) (now second) (startHeads (now first) (now second)) ⌝ }
-    ensures { λ r. ⌜ r ≡ skipClusters (now (reference .entry)) (now (first .entry)) (now (second .entry)) k (startHeads (now (first .entry)) (now (second .entry))) 0 ⌝ }
+    ensures { λ r. ⌜
+        r ≡ skipClusters (now (reference .entry)) (now (first .entry)) (now (second .entry)) k
+        (startHeads (now (first .entry)) (now (second .entry))) 0
+        ⌝ }
 {
     let mut heads = start_heads(first, second);
     let mut entries: usize = 0;

@@ -51,7 +51,10 @@ fn add_mark(count: Count, mark: u8) -> Count
 
 // The counts of the first n marks.
 pub fn count_all(marks: &[u8], n: usize) -> Count
-    requires { ⌜ (n ≤ length (now marks)) × (n ≤ mostEntries) ⌝ }
+    requires { ⌜
+        (n ≤ length (now marks))
+        × (n ≤ mostEntries)
+        ⌝ }
     ensures { λ r. ⌜ r ≡ countAll (take n (now (marks .entry))) ⌝ }
 {
     let mut count = Count {
@@ -69,7 +72,10 @@ pub fn count_all(marks: &[u8], n: usize) -> Count
 
 // The six counts with the mark of one entry more, of this list (`side`: list 1).
 fn add_entry(counts: Counts, side: bool, mark: u8) -> Counts
-    requires { ⌜ Few (counts .first) × Few (counts .second) ⌝ }
+    requires { ⌜
+        Few (counts .first)
+        × Few (counts .second)
+        ⌝ }
     ensures { λ r. ⌜ r ≡ addEntry counts side mark ⌝ }
 {
     let first = counts.first;
@@ -88,7 +94,11 @@ fn add_entry(counts: Counts, side: bool, mark: u8) -> Counts
 
 // The six counts of two lists that can be read and have no more entries than there are marks. Marks behind the entries are not looked at.
 pub fn count_lists(first: &[u8], second: &[u8], marks: &[u8]) -> Counts
-    requires { ⌜ Readable (now first) (now second) (startHeads (now first) (now second)) × (length (mergedItems (now first) (now second)) ≤ length (now marks)) × (length (mergedItems (now first) (now second)) ≤ mostEntries) ⌝ }
+    requires { ⌜
+        Readable (now first) (now second) (startHeads (now first) (now second))
+        × (length (mergedItems (now first) (now second)) ≤ length (now marks))
+        × (length (mergedItems (now first) (now second)) ≤ mostEntries)
+        ⌝ }
     ensures { λ r. ⌜ r ≡ countsOf (mergedItems (now (first .entry)) (now (second .entry))) (now (marks .entry)) ⌝ }
 {
     let none = Count {

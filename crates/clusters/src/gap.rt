@@ -7,7 +7,8 @@ ghost use Rattle.clusters.specs.Gap.{more, Adds, begin, reachOf, cut?};
 use bases::period::has_any_period;
 use bases::place::Place;
 
-// What the rule reads of an entry: is it of list 1, where its span starts and ends, and by how much its alleles are shorter or longer than REF.
+// What the rule reads of an entry: is it of list 1, where its span starts and ends, and by how much its alleles are shorter or longer than
+// REF.
 pub struct Size {
     pub side: bool,
     pub start: Place,
@@ -67,7 +68,10 @@ pub fn begin(size: Size) -> Current
 
 // g: by how much the two lists' donors can come to be apart.
 fn reach_of(current: Current) -> usize
-    requires { ⌜ (current .b1 + current .a2 < 2 ^ 64) × (current .b2 + current .a1 < 2 ^ 64) ⌝ }
+    requires { ⌜
+        (current .b1 + current .a2 < 2 ^ 64)
+        × (current .b2 + current .a1 < 2 ^ 64)
+        ⌝ }
     ensures { λ r. ⌜ r ≡ reachOf current ⌝ }
 {
     let one = current.b1 + current.a2;
@@ -75,9 +79,14 @@ fn reach_of(current: Current) -> usize
     if one < other { other } else { one }
 }
 
-// Is the current cluster cut before an entry that starts at `start`? A gap no longer than g has the period g, and where g is 0 no period is asked for.
+// Is the current cluster cut before an entry that starts at `start`? A gap no longer than g has the period g, and where g is 0 no period is
+// asked for.
 pub fn is_cut(reference: &[u8], current: Current, start: Place) -> bool
-    requires { ⌜ (start .0 ≤ length (now reference)) × (current .b1 + current .a2 < 2 ^ 64) × (current .b2 + current .a1 < 2 ^ 64) ⌝ }
+    requires { ⌜
+        (start .0 ≤ length (now reference))
+        × (current .b1 + current .a2 < 2 ^ 64)
+        × (current .b2 + current .a1 < 2 ^ 64)
+        ⌝ }
     ensures { λ r. ⌜ r ≡ cut? (basesOf (now (reference .entry))) current start ⌝ }
 {
     let b = current.b;

@@ -36,7 +36,10 @@ fn excess(a: usize, b: usize) -> usize
 
 // What the gap rule reads of an entry. Its POS is one, and its span ends where a number can say it.
 pub fn size_of(item: Item) -> Size
-    requires { ⌜ (1 ≤ item .entry .pos .0) × (startOf (item .entry) .0 + item .entry .reference .len < 2 ^ 64) ⌝ }
+    requires { ⌜
+        (1 ≤ item .entry .pos .0)
+        × (startOf (item .entry) .0 + item .entry .reference .len < 2 ^ 64)
+        ⌝ }
     ensures { λ r. ⌜ r ≡ itemSize item ⌝ }
 {
     let entry = item.entry;

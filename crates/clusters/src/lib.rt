@@ -1,6 +1,5 @@
-// Clusters: the entries of two lists in merged order, the gap rule, the clusters that it cuts, in one walk over both texts, their marks, and what the marks
-// count.
-// The contracts cite specs/.
+// Clusters: the entries of two lists in merged order, the gap rule, the clusters that it cuts, in one walk over both texts, their marks,
+// and what the marks count. The contracts cite specs/.
 pub mod cluster;
 pub mod count;
 pub mod gap;

@@ -7,7 +7,8 @@ ghost use Rattle.bases.specs.Reference.{longestReference};
 ghost use Rattle.donors.specs.Table.{most};
 ghost use Rattle.clusters.specs.Heads.{Ready, startHeads, itemsFrom, variantsFrom};
 ghost use Rattle.clusters.specs.Markable.{Markable};
-ghost use Rattle.clusters.specs.Marks.{QUESTION, marksOf, markedOf, clustersOf, clustersFrom, allMarks, totalScore, askedFor, marksAfter};
+ghost use Rattle.clusters.specs.Marks.{QUESTION, marksOf, markedOf, clustersOf, clustersFrom, allMarks, totalScore, askedFor};
+ghost use Rattle.clusters.specs.Marks.{marksAfter};
 ghost use Rattle.clusters.specs.Merged.{mergedItems};
 use crate::cluster::next_cluster;
 use crate::cluster::skip_clusters;
@@ -36,7 +37,10 @@ pub struct Marked {
 
 // Writes the first n choices as marks.
 fn put_choices(choices: [u8; MOST], n: usize, marks: &mut [u8], at: usize)
-    requires { ⌜ (n ≤ most) × (at + n ≤ length (now marks)) ⌝ }
+    requires { ⌜
+        (n ≤ most)
+        × (at + n ≤ length (now marks))
+        ⌝ }
     ensures { λ r. ⌜ now (marks .exit) ≡ put (now (marks .entry)) at (take n choices) ⌝ }
 {
     let mut i: usize = 0;
@@ -58,7 +62,8 @@ fn put_undecided(n: usize, marks: &mut [u8], at: usize)
     }
 }
 
-// Marks the next `count` entries, which are a cluster, from entry `at` on. `table`, `mine` and `other` are room for the search: what is left there is not told.
+// Marks the next `count` entries, which are a cluster, from entry `at` on. `table`, `mine` and `other` are room for the search: what is
+// left there is not told.
 fn mark_cluster(
     reference: &[u8],
     first: &[u8],
@@ -71,8 +76,20 @@ fn mark_cluster(
     marks: &mut [u8],
     at: usize,
 ) -> Marked
-    requires { ⌜ Markable (now reference) (now first) (now second) heads (length (now table)) (length (now mine)) (length (now other)) × (1 ≤ count) × (count ≤ length (itemsFrom (now first) (now second) heads)) × (at + count ≤ length (now marks)) ⌝ }
-    ensures { λ r. ⌜ (r ≡ markedOf (now (reference .entry)) (take count (variantsFrom (now (reference .entry)) (now (first .entry)) (now (second .entry)) heads))) × (now (marks .exit) ≡ put (now (marks .entry)) at (marksOf (now (reference .entry)) (take count (variantsFrom (now (reference .entry)) (now (first .entry)) (now (second .entry)) heads)))) ⌝ }
+    requires { ⌜
+        Markable (now reference) (now first) (now second) heads (length (now table)) (length (now mine)) (length (now other))
+        × (1 ≤ count)
+        × (count ≤ length (itemsFrom (now first) (now second) heads))
+        × (at + count ≤ length (now marks))
+        ⌝ }
+    ensures { λ r. ⌜
+        (r ≡ markedOf (now (reference .entry))
+        (take count (variantsFrom (now (reference .entry)) (now (first .entry)) (now (second .entry)) heads)))
+        × (now (marks .exit)
+        ≡ put (now (marks .entry))
+        at (marksOf (now (reference .entry))
+        (take count (variantsFrom (now (reference .entry)) (now (first .entry)) (now (second .entry)) heads))))
+        ⌝ }
 {
     if MOST < count {
         put_undecided(count, marks, at);
@@ -103,7 +120,8 @@ fn mark_cluster(
     }
 }
 
-// Marks every entry from the cursors on, and sums the score over the decided clusters. `table`, `mine` and `other` are room for the search, as above.
+// Marks every entry from the cursors on, and sums the score over the decided clusters. `table`, `mine` and `other` are room for the search,
+// as above.
 fn mark_from(
     reference: &[u8],
     first: &[u8],
@@ -114,8 +132,16 @@ fn mark_from(
     other: &mut [u8],
     marks: &mut [u8],
 ) -> usize
-    requires { ⌜ Markable (now reference) (now first) (now second) from (length (now table)) (length (now mine)) (length (now other)) × (length (itemsFrom (now first) (now second) from) ≤ length (now marks)) ⌝ }
-    ensures { λ r. ⌜ (r ≡ totalScore (now (reference .entry)) (clustersFrom (now (reference .entry)) (now (first .entry)) (now (second .entry)) from)) × (now (marks .exit) ≡ put (now (marks .entry)) 0 (allMarks (now (reference .entry)) (clustersFrom (now (reference .entry)) (now (first .entry)) (now (second .entry)) from))) ⌝ }
+    requires { ⌜
+        Markable (now reference) (now first) (now second) from (length (now table)) (length (now mine)) (length (now other))
+        × (length (itemsFrom (now first) (now second) from) ≤ length (now marks))
+        ⌝ }
+    ensures { λ r. ⌜
+        (r ≡ totalScore (now (reference .entry)) (clustersFrom (now (reference .entry)) (now (first .entry)) (now (second .entry)) from))
+        × (now (marks .exit)
+        ≡ put (now (marks .entry)) 0
+        (allMarks (now (reference .entry)) (clustersFrom (now (reference .entry)) (now (first .entry)) (now (second .entry)) from)))
+        ⌝ }
 {
     let mut heads = from;
     let mut at: usize = 0;
@@ -143,8 +169,17 @@ fn mark_from(
 
 // Marks every entry of two accepted lists, and sums the score over the decided clusters.
 pub fn mark_every(reference: &[u8], first: &[u8], second: &[u8], marks: &mut [u8]) -> usize
-    requires { ⌜ Ready (now reference) (now first) (now second) (startHeads (now first) (now second)) × (length (now reference) ≤ longestReference) × (length (mergedItems (now first) (now second)) ≤ length (now marks)) ⌝ }
-    ensures { λ r. ⌜ (r ≡ totalScore (now (reference .entry)) (clustersOf (now (reference .entry)) (now (first .entry)) (now (second .entry)))) × (now (marks .exit) ≡ put (now (marks .entry)) 0 (allMarks (now (reference .entry)) (clustersOf (now (reference .entry)) (now (first .entry)) (now (second .entry))))) ⌝ }
+    requires { ⌜
+        Ready (now reference) (now first) (now second) (startHeads (now first) (now second))
+        × (length (now reference) ≤ longestReference)
+        × (length (mergedItems (now first) (now second)) ≤ length (now marks))
+        ⌝ }
+    ensures { λ r. ⌜
+        (r ≡ totalScore (now (reference .entry)) (clustersOf (now (reference .entry)) (now (first .entry)) (now (second .entry))))
+        × (now (marks .exit)
+        ≡ put (now (marks .entry)) 0
+        (allMarks (now (reference .entry)) (clustersOf (now (reference .entry)) (now (first .entry)) (now (second .entry)))))
+        ⌝ }
 {
     let heads = start_heads(first, second);
     let mut table = [0usize; TABLE];
@@ -170,8 +205,17 @@ pub fn mark_one(
     cluster: usize,
     marks: &mut [u8],
 ) -> Marked
-    requires { ⌜ Ready (now reference) (now first) (now second) (startHeads (now first) (now second)) × (length (now reference) ≤ longestReference) × (length (mergedItems (now first) (now second)) ≤ length (now marks)) ⌝ }
-    ensures { λ r. ⌜ (r ≡ askedFor (now (reference .entry)) (clustersOf (now (reference .entry)) (now (first .entry)) (now (second .entry))) cluster) × (now (marks .exit) ≡ marksAfter (now (reference .entry)) (clustersOf (now (reference .entry)) (now (first .entry)) (now (second .entry))) cluster (now (marks .entry))) ⌝ }
+    requires { ⌜
+        Ready (now reference) (now first) (now second) (startHeads (now first) (now second))
+        × (length (now reference) ≤ longestReference)
+        × (length (mergedItems (now first) (now second)) ≤ length (now marks))
+        ⌝ }
+    ensures { λ r. ⌜
+        (r ≡ askedFor (now (reference .entry)) (clustersOf (now (reference .entry)) (now (first .entry)) (now (second .entry))) cluster)
+        × (now (marks .exit)
+        ≡ marksAfter (now (reference .entry)) (clustersOf (now (reference .entry)) (now (first .entry)) (now (second .entry))) cluster
+        (now (marks .entry)))
+        ⌝ }
 {
     let skipped = skip_clusters(reference, first, second, cluster);
     let heads = skipped.heads;

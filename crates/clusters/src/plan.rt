@@ -1,4 +1,5 @@
-// The plan: a lent slice of small records, one a cluster. A walk by value finds the records; only `fill_plan` and `is_plan` touch the slice.
+// The plan: a lent slice of small records, one a cluster. A walk by value finds the records; only `fill_plan` and `is_plan` touch the
+// slice.
 ghost use mathlib.Core.Path.{_≡_};
 ghost use Prim.Native.Nat.{_+_, _≤_, _<_, _^_};
 ghost use lib.ListN.{length};
@@ -28,7 +29,10 @@ pub struct Walk {
 
 // The step at the cursors, whose next entry is entry `i`. Where none is left, the record has no entry and the cursors stay.
 fn walk_from(reference: &[u8], first: &[u8], second: &[u8], i: u32, heads: Heads) -> Walk
-    requires { ⌜ Ready (now reference) (now first) (now second) heads × (i + length (itemsFrom (now first) (now second) heads) < 2 ^ 32) ⌝ }
+    requires { ⌜
+        Ready (now reference) (now first) (now second) heads
+        × (i + length (itemsFrom (now first) (now second) heads) < 2 ^ 32)
+        ⌝ }
     ensures { λ r. ⌜ r ≡ walkFrom (now (reference .entry)) (now (first .entry)) (now (second .entry)) i heads ⌝ }
 {
     if is_done(first, second, heads) {
@@ -59,7 +63,10 @@ pub fn first_walk(reference: &[u8], first: &[u8], second: &[u8]) -> Walk
 
 // The step behind one.
 pub fn next_walk(reference: &[u8], first: &[u8], second: &[u8], walk: Walk) -> Walk
-    requires { ⌜ Ready (now reference) (now first) (now second) (walk .heads) × (walk .cluster .first + walk .cluster .count + length (itemsFrom (now first) (now second) (walk .heads)) < 2 ^ 32) ⌝ }
+    requires { ⌜
+        Ready (now reference) (now first) (now second) (walk .heads)
+        × (walk .cluster .first + walk .cluster .count + length (itemsFrom (now first) (now second) (walk .heads)) < 2 ^ 32)
+        ⌝ }
     ensures { λ r. ⌜ r ≡ nextWalk (now (reference .entry)) (now (first .entry)) (now (second .entry)) walk ⌝ }
 {
     let cluster = walk.cluster;
@@ -73,10 +80,17 @@ pub fn next_walk(reference: &[u8], first: &[u8], second: &[u8], walk: Walk) -> W
     )
 }
 
-// Writes the plan of two lists into the lent records, one a cluster, and says how many clusters there are. Nothing else of the records changes.
+// Writes the plan of two lists into the lent records, one a cluster, and says how many clusters there are. Nothing else of the records
+// changes.
 pub fn fill_plan(reference: &[u8], first: &[u8], second: &[u8], plan: &mut [Cluster]) -> usize
-    requires { ⌜ Ready (now reference) (now first) (now second) (startHeads (now first) (now second)) × (length (planOf (now reference) (now first) (now second)) ≤ length (now plan)) ⌝ }
-    ensures { λ r. ⌜ (r ≡ length (planOf (now (reference .entry)) (now (first .entry)) (now (second .entry)))) × (now (plan .exit) ≡ put (now (plan .entry)) 0 (planOf (now (reference .entry)) (now (first .entry)) (now (second .entry)))) ⌝ }
+    requires { ⌜
+        Ready (now reference) (now first) (now second) (startHeads (now first) (now second))
+        × (length (planOf (now reference) (now first) (now second)) ≤ length (now plan))
+        ⌝ }
+    ensures { λ r. ⌜
+        (r ≡ length (planOf (now (reference .entry)) (now (first .entry)) (now (second .entry))))
+        × (now (plan .exit) ≡ put (now (plan .entry)) 0 (planOf (now (reference .entry)) (now (first .entry)) (now (second .entry))))
+        ⌝ }
 {
     let mut walk = first_walk(reference, first, second);
     let mut k: usize = 0;
@@ -90,7 +104,10 @@ pub fn fill_plan(reference: &[u8], first: &[u8], second: &[u8], plan: &mut [Clus
 
 // Are the records given the plan of these lists? Only the first ones, as many as there are clusters, are judged.
 pub fn is_plan(reference: &[u8], first: &[u8], second: &[u8], plan: &[Cluster]) -> bool
-    requires { ⌜ Ready (now reference) (now first) (now second) (startHeads (now first) (now second)) × (length (planOf (now reference) (now first) (now second)) ≤ length (now plan)) ⌝ }
+    requires { ⌜
+        Ready (now reference) (now first) (now second) (startHeads (now first) (now second))
+        × (length (planOf (now reference) (now first) (now second)) ≤ length (now plan))
+        ⌝ }
     ensures { λ r. ⌜ r ≡ isPlan? (planOf (now (reference .entry)) (now (first .entry)) (now (second .entry))) (now (plan .entry)) ⌝ }
 {
     let mut walk = first_walk(reference, first, second);

@@ -137,8 +137,16 @@ pub fn put_rows(
     count: usize,
     table: &mut [usize],
 ) -> Stretch
-    requires { ⌜ Ready (now reference) (now first) (now second) heads × (count ≤ length (itemsFrom (now first) (now second) heads)) × (count * width ≤ length (now table)) ⌝ }
-    ensures { λ r. ⌜ (r ≡ stretchOf (now (reference .entry)) (take count (itemsFrom (now (first .entry)) (now (second .entry)) heads))) × (now (table .exit) ≡ put (now (table .entry)) 0 (tableOf (take count (itemsFrom (now (first .entry)) (now (second .entry)) heads)))) ⌝ }
+    requires { ⌜
+        Ready (now reference) (now first) (now second) heads
+        × (count ≤ length (itemsFrom (now first) (now second) heads))
+        × (count * width ≤ length (now table))
+        ⌝ }
+    ensures { λ r. ⌜
+        (r ≡ stretchOf (now (reference .entry)) (take count (itemsFrom (now (first .entry)) (now (second .entry)) heads)))
+        × (now (table .exit)
+        ≡ put (now (table .entry)) 0 (tableOf (take count (itemsFrom (now (first .entry)) (now (second .entry)) heads))))
+        ⌝ }
 {
     let mut at = heads;
     let mut stretch = Stretch {

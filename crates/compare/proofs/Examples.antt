@@ -63,10 +63,14 @@ printed =
     108 ∷ 9 ∷ 50 ∷ 9 ∷ 48 ∷ 9 ∷ 48 ∷ 9 ∷ 50 ∷ 10 ∷ []
 
 pub example-1 : comparedText reference first second ≡ printed
-unfolding among? letterOf allLetters? anyPeriod? agree? altsWrong? allDigits? valueFrom isPos? copiesWrong? skip full? linesOf judgeLines judgeText until headerWrong? firstRow headerBytes entriesFrom digitsOf chain? edits donorFrom over first? better bestOver search score join every? allowed? bestOf totalScore weave merged rest plan recordsFrom firstRefusal howMany ownMarks numbersFrom entryLines comparedText
+unfolding among? letterOf allLetters? anyPeriod? agree? altsWrong? allDigits? valueFrom isPos? copiesWrong? skip full? linesOf judgeLines judgeText until headerWrong? firstRow headerBytes entriesFrom
+    digitsOf chain? edits donorFrom over first? better bestOver search score join every? allowed? bestOf totalScore weave merged rest plan recordsFrom firstRefusal howMany ownMarks numbersFrom
+    entryLines comparedText
 example-1 = refl
 
 -- refused 1 0 0
 pub example-empty : comparedText [] [] [] ≡ 114 ∷ 101 ∷ 102 ∷ 117 ∷ 115 ∷ 101 ∷ 100 ∷ 9 ∷ 49 ∷ 9 ∷ 48 ∷ 9 ∷ 48 ∷ 10 ∷ []
-unfolding among? letterOf allLetters? anyPeriod? agree? altsWrong? allDigits? valueFrom isPos? copiesWrong? skip full? linesOf judgeLines judgeText until headerWrong? firstRow headerBytes entriesFrom digitsOf chain? edits donorFrom over first? better bestOver search score join every? allowed? bestOf totalScore weave merged rest plan recordsFrom firstRefusal howMany ownMarks numbersFrom entryLines comparedText
+unfolding among? letterOf allLetters? anyPeriod? agree? altsWrong? allDigits? valueFrom isPos? copiesWrong? skip full? linesOf judgeLines judgeText until headerWrong? firstRow headerBytes entriesFrom
+    digitsOf chain? edits donorFrom over first? better bestOver search score join every? allowed? bestOf totalScore weave merged rest plan recordsFrom firstRefusal howMany ownMarks numbersFrom
+    entryLines comparedText
 example-empty = refl

@@ -73,7 +73,8 @@ pub record Putting (first second marks : List ℕ) (cluster count i : ℕ) (star
   pub heads : h ≡ passed first second k start
   pub readable : Readable first second h
   pub room : at + lineMost * (count - k) ≤ length out₀
-  pub left : Left (put out₀ at₀ (clusterLines first second marks cluster count start i)) (at₀ + length (clusterLines first second marks cluster count start i)) (length out₀) out at (clusterLines first second marks cluster (count - k) h (i + k))
+  pub left : Left (put out₀ at₀ (clusterLines first second marks cluster count start i)) (at₀ + length (clusterLines first second marks cluster count start i)) (length out₀) out
+      at (clusterLines first second marks cluster (count - k) h (i + k))
 
 module _ (first second marks : List ℕ) (cluster count i : ℕ) (start : Heads) (out₀ : List ℕ) (at₀ : ℕ) where
   pub putting-begin : Readable first second start → count ≤ length (itemsFrom first second start) → at₀ + lineMost * count ≤ length out₀

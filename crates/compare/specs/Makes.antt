@@ -11,8 +11,8 @@ use Rattle.clusters.specs.Merged.{mergedItems}
 use Rattle.lines.specs.Lines.{largestNumber}
 use Rattle.compare.specs.Printed.{numbersFrom, textMost}
 
--- The records of both lists can be read; the plan's first records, as many as there are clusters, give each entry a cluster's number; each entry has a
--- mark; the score can be printed; and there is room for the text.
+-- The records of both lists can be read; the plan's first records, as many as there are clusters, give each entry a cluster's number; each
+-- entry has a mark; the score can be printed; and there is room for the text.
 pub record Makes (first second : List ℕ) (plan : List Cluster) (clusters : ℕ) (marks : List ℕ) (score room : ℕ) : Type 0 where
   pub readable : Readable first second (startHeads first second)
   pub few-clusters : clusters ≤ mostEntries

@@ -1,5 +1,6 @@
--- What compare prints. Document 01: the heading; one line an entry in merged order, with its list, its POS as read, its cluster from 0 and its mark; the
--- total line, with the entries marked `+` or `-`, those marked `0`, those marked `?`, and the score. Fields are TAB-separated.
+-- What compare prints. Document 01: the heading; one line an entry in merged order, with its list, its POS as read, its cluster from 0 and
+-- its mark; the total line, with the entries marked `+` or `-`, those marked `0`, those marked `?`, and the score. Fields are
+-- TAB-separated.
 -- Assumes nothing: these are definitions.
 use mathlib.Core.Bool.{Bool, true, false}
 use mathlib.Core.List.{List, [], _∷_, _++_}

@@ -13,7 +13,10 @@ use told::marked::mark_files;
 // Writes what is printed for a reference file and two lists at the start of the room, and says how many bytes that is.
 pub fn compare_text(file: &[u8], first: &[u8], second: &[u8], out: &mut [u8]) -> usize
     requires { ⌜ textMost ≤ length (now out) ⌝ }
-    ensures { λ r. ⌜ (r ≡ length (comparedText (now (file .entry)) (now (first .entry)) (now (second .entry)))) × (now (out .exit) ≡ put (now (out .entry)) 0 (comparedText (now (file .entry)) (now (first .entry)) (now (second .entry)))) ⌝ }
+    ensures { λ r. ⌜
+        (r ≡ length (comparedText (now (file .entry)) (now (first .entry)) (now (second .entry))))
+        × (now (out .exit) ≡ put (now (out .entry)) 0 (comparedText (now (file .entry)) (now (first .entry)) (now (second .entry))))
+        ⌝ }
 {
     let mut marks = [0u8; MOST_ENTRIES];
     let marked = mark_files(file, first, second, &mut marks);

@@ -43,8 +43,22 @@ fn put_cluster(
     out: &mut [u8],
     at: usize,
 ) -> Walked
-    requires { ⌜ Readable (now first) (now second) heads × (count ≤ length (itemsFrom (now first) (now second) heads)) × (cluster ≤ largestNumber) × (i + count ≤ length (now marks)) × (at + lineMost * count ≤ length (now out)) ⌝ }
-    ensures { λ r. ⌜ (r .heads ≡ passed (now (first .entry)) (now (second .entry)) count heads) × (r .at ≡ at + length (entryLines (replicate count cluster) (itemsFrom (now (first .entry)) (now (second .entry)) heads) (drop i (now (marks .entry))))) × (now (out .exit) ≡ put (now (out .entry)) at (entryLines (replicate count cluster) (itemsFrom (now (first .entry)) (now (second .entry)) heads) (drop i (now (marks .entry))))) ⌝ }
+    requires { ⌜
+        Readable (now first) (now second) heads
+        × (count ≤ length (itemsFrom (now first) (now second) heads))
+        × (cluster ≤ largestNumber)
+        × (i + count ≤ length (now marks))
+        × (at + lineMost * count ≤ length (now out))
+        ⌝ }
+    ensures { λ r. ⌜
+        (r .heads ≡ passed (now (first .entry)) (now (second .entry)) count heads)
+        × (r .at ≡ at + length
+        (entryLines (replicate count cluster) (itemsFrom (now (first .entry)) (now (second .entry)) heads)
+        (drop i (now (marks .entry)))))
+        × (now (out .exit) ≡ put (now (out .entry))
+        at (entryLines (replicate count cluster) (itemsFrom (now (first .entry)) (now (second .entry)) heads)
+        (drop i (now (marks .entry)))))
+        ⌝ }
 {
     let mut head = heads;
     let mut next = at;
@@ -73,7 +87,11 @@ pub fn make_text(
     out: &mut [u8],
 ) -> usize
     requires { ⌜ Makes (now first) (now second) plan clusters (now marks) score (length (now out)) ⌝ }
-    ensures { λ r. ⌜ (r ≡ length (printedText (take clusters plan) (mergedItems (now (first .entry)) (now (second .entry))) (now (marks .entry)) score)) × (now (out .exit) ≡ put (now (out .entry)) 0 (printedText (take clusters plan) (mergedItems (now (first .entry)) (now (second .entry))) (now (marks .entry)) score)) ⌝ }
+    ensures { λ r. ⌜
+        (r ≡ length (printedText (take clusters plan) (mergedItems (now (first .entry)) (now (second .entry))) (now (marks .entry)) score))
+        × (now (out .exit) ≡ put (now (out .entry)) 0
+        (printedText (take clusters plan) (mergedItems (now (first .entry)) (now (second .entry))) (now (marks .entry)) score))
+        ⌝ }
 {
     let mut at = put_heading(out);
     let mut heads = start_heads(first, second);

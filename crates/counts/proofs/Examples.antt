@@ -42,5 +42,6 @@ pub examples :
     Prints "TGCCGT\n" (text (hom "2" "GCCG" "CCGA" ∷ [])) (text (hom "1" "TG" "T" ∷ hom "5" "G" "GA" ∷ [])) "1\t0\t0\t2\t0\t0\n"
     × Prints "GAC\n" (text (replicate 7 snp)) (text (replicate 6 snp)) "0\t0\t7\t0\t0\t6\n"
     × Prints "" [] [] "refused\t1\t0\t0\n"
-unfolding among? letterOf allLetters? anyPeriod? agree? altsWrong? allDigits? valueFrom isPos? copiesWrong? skip full? linesOf judgeLines judgeText until headerWrong? firstRow headerBytes entriesFrom digitsOf chain? edits donorFrom over first? better bestOver search score join every? allowed? bestOf weave merged rest plan recordsFrom firstRefusal howMany ownMarks countedText
+unfolding among? letterOf allLetters? anyPeriod? agree? altsWrong? allDigits? valueFrom isPos? copiesWrong? skip full? linesOf judgeLines judgeText until headerWrong? firstRow headerBytes entriesFrom
+    digitsOf chain? edits donorFrom over first? better bestOver search score join every? allowed? bestOf weave merged rest plan recordsFrom firstRefusal howMany ownMarks countedText
 examples = (refl, refl, refl)

@@ -1,5 +1,5 @@
--- What counts prints for the bytes of a run's three files, reference.txt, first.vcf and second.vcf: one line with the six counts of the run's marks. On
--- refusal the only line is that of the refusal.
+-- What counts prints for the bytes of a run's three files, reference.txt, first.vcf and second.vcf: one line with the six counts of the
+-- run's marks. On refusal the only line is that of the refusal.
 -- Assumes nothing: these are definitions.
 use mathlib.Core.List.{List}
 use Prim.Native.Nat.{ℕ, _*_}

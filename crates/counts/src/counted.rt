@@ -1,4 +1,5 @@
-// What counts prints for the bytes of its three files. Each function says where what it wrote ends, and leaves every other byte of the room as it was.
+// What counts prints for the bytes of its three files. Each function says where what it wrote ends, and leaves every other byte of the room
+// as it was.
 ghost use mathlib.Core.Path.{_≡_};
 ghost use Prim.Native.Nat.{_≤_};
 ghost use lib.ListN.{length};
@@ -20,8 +21,15 @@ pub const COUNTED_MOST: usize = 2 * FIELDS_MOST;
 
 // Writes the line of six counts at the start of the room.
 pub fn put_counts(counts: Counts, out: &mut [u8]) -> usize
-    requires { ⌜ Few (counts .first) × Few (counts .second) × (countedMost ≤ length (now out)) ⌝ }
-    ensures { λ r. ⌜ (r ≡ length (countsLine counts)) × (now (out .exit) ≡ put (now (out .entry)) 0 (countsLine counts)) ⌝ }
+    requires { ⌜
+        Few (counts .first)
+        × Few (counts .second)
+        × (countedMost ≤ length (now out))
+        ⌝ }
+    ensures { λ r. ⌜
+        (r ≡ length (countsLine counts))
+        × (now (out .exit) ≡ put (now (out .entry)) 0 (countsLine counts))
+        ⌝ }
 {
     let one = counts.first;
     let next = put_fields(one.matched, one.unmatched, one.undecided, TAB, out, 0);
@@ -32,7 +40,10 @@ pub fn put_counts(counts: Counts, out: &mut [u8]) -> usize
 // Writes what is printed for a reference file and two lists at the start of the room, and says how many bytes that is.
 pub fn count_text(file: &[u8], first: &[u8], second: &[u8], out: &mut [u8]) -> usize
     requires { ⌜ countedMost ≤ length (now out) ⌝ }
-    ensures { λ r. ⌜ (r ≡ length (countedText (now (file .entry)) (now (first .entry)) (now (second .entry)))) × (now (out .exit) ≡ put (now (out .entry)) 0 (countedText (now (file .entry)) (now (first .entry)) (now (second .entry)))) ⌝ }
+    ensures { λ r. ⌜
+        (r ≡ length (countedText (now (file .entry)) (now (first .entry)) (now (second .entry))))
+        × (now (out .exit) ≡ put (now (out .entry)) 0 (countedText (now (file .entry)) (now (first .entry)) (now (second .entry))))
+        ⌝ }
 {
     let mut marks = [0u8; LEAST];
     let marked = mark_files(file, first, second, &mut marks);

@@ -1,4 +1,5 @@
-// The program counts: reads a run's reference.txt, first.vcf and second.vcf, and prints the six counts of its marks. The contracts cite specs/.
+// The program counts: reads a run's reference.txt, first.vcf and second.vcf, and prints the six counts of its marks. The contracts cite
+// specs/.
 mod counted;
 
 use files::file::FILE_ROOM;

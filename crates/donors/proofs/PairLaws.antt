@@ -108,14 +108,17 @@ module _ {reference first second t φ : List ℕ} {h : Copy} {n a b space1 space
       )
 
       pub added-stop : (s : ℕ) → agree? (basesOf (part mine′ s (x′ .len))) (basesOf (part other′ s (y′ .len))) ≡ false → oneDonor? reference first second t φ h n ≡ false
-      added-stop s u = one-donor reference first second t φ h n a b space1 space2 r p ∙ fronts-stop (donorIn reference first t φ list1 h n a b) (donorIn reference second t φ list2 h n a b) mine′ other′ s _ _ (one-more .len) (two-more .len) (one-more .front) (two-more .front) u
+      added-stop s u = one-donor reference first second t φ h n a b space1 space2 r p
+          ∙ fronts-stop (donorIn reference first t φ list1 h n a b) (donorIn reference second t φ list2 h n a b) mine′ other′ s _ _ (one-more .len) (two-more .len) (one-more .front) (two-more .front)
+          u
 
       pub added-more : (s : ℕ) → s ≡ min (x .len) (y .len) → agree? (basesOf (part mine′ s (x′ .len))) (basesOf (part other′ s (y′ .len))) ≡ true
           → Pair reference first second t φ h n a b space1 space2 (i + 1) x′ y′ mine′ other′
       added-more s z u = record {
         one = one-more;
         two = two-more;
-        alike = fronts-more (donorIn reference first t φ list1 h n a b) (donorIn reference second t φ list2 h n a b) mine′ other′ s _ _ (one-more .len) (two-more .len) (one-more .front) (two-more .front) _ _ z (w .alike) u;
+        alike = fronts-more (donorIn reference first t φ list1 h n a b) (donorIn reference second t φ list2 h n a b) mine′ other′ s _ _ (one-more .len) (two-more .len) (one-more .front)
+            (two-more .front) _ _ z (w .alike) u;
         room1 = added-space .0;
         room2 = added-space .1;
       }

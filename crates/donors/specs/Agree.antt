@@ -14,8 +14,8 @@ use Rattle.donors.specs.Items.{Starts, Ends, over}
 use Rattle.donors.specs.Rules.{list1, list2, edits, donorOf}
 use Rattle.donors.specs.Table.{most, width, rowAt, variantsFrom, choicesFrom}
 
--- The table has n entries, each sound, all of them between a and b on the reference, and two buffers have room for what the lists can make of that stretch.
--- This does not depend on the choices.
+-- The table has n entries, each sound, all of them between a and b on the reference, and two buffers have room for what the lists can make
+-- of that stretch. This does not depend on the choices.
 pub record Ready (reference first second t : List ℕ) (n a b space1 space2 : ℕ) : Type 0 where
   pub rows : n * width ≤ length t
   pub few : n ≤ most
@@ -29,12 +29,15 @@ pub record Ready (reference first second t : List ℕ) (n a b space1 space2 : �
 
 -- On copy h no two chosen spans of a list overlap.
 abbrev pub ApartOn : (reference first second t φ : List ℕ) → Copy → ℕ → Type 0
-ApartOn reference first second t φ h n = (j : Bool) → Chain 0 (edits cardRules j h (variantsFrom reference first second t 0 n) (choicesFrom φ 0 n))
+ApartOn reference first second t φ h n = (j : Bool)
+    → Chain 0 (edits cardRules j h (variantsFrom reference first second t 0 n) (choicesFrom φ 0 n))
 
 -- The donor of list j on copy h, over the whole reference, with a table's entries and their choices.
 abbrev pub donorBy : (reference first second t φ : List ℕ) → Bool → Copy → ℕ → List ℕ
-donorBy reference first second t φ j h n = donorOf cardRules (basesOf reference) j h (variantsFrom reference first second t 0 n) (choicesFrom φ 0 n)
+donorBy reference first second t φ j h n =
+    donorOf cardRules (basesOf reference) j h (variantsFrom reference first second t 0 n) (choicesFrom φ 0 n)
 
 -- On copy h the two lists have one donor.
 abbrev pub oneDonor? : (reference first second t φ : List ℕ) → Copy → ℕ → Bool
-oneDonor? reference first second t φ h n = same? (donorBy reference first second t φ list1 h n) (donorBy reference first second t φ list2 h n)
+oneDonor? reference first second t φ h n =
+    same? (donorBy reference first second t φ list1 h n) (donorBy reference first second t φ list2 h n)

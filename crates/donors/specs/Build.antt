@@ -1,5 +1,5 @@
--- What a row of a table adds to a donor that is built in a buffer from left to right: the reference up to its span and its allele, or nothing where it is not of
--- the list, or not chosen.
+-- What a row of a table adds to a donor that is built in a buffer from left to right: the reference up to its span and its allele, or
+-- nothing where it is not of the list, or not chosen.
 -- Assumes nothing: these are definitions.
 use mathlib.Core.Bool.{Bool}
 use mathlib.Core.List.{List, [], _++_}

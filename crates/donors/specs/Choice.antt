@@ -1,4 +1,5 @@
--- The card's own rules. Document 01: `+` puts an entry's alleles on copies 0 and 1 as written, `-` exchanges the two copies, `0` leaves it out.
+-- The card's own rules. Document 01: `+` puts an entry's alleles on copies 0 and 1 as written, `-` exchanges the two copies, `0` leaves it
+-- out.
 -- Assumes nothing: these are definitions.
 use mathlib.Core.Bool.{Bool, true, false, Bool·beq, _&&_}
 use mathlib.Core.List.{List, [], _∷_}

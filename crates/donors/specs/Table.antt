@@ -1,5 +1,5 @@
--- A table of entries, as numbers: nine a row. A row says the entry's list (1 or 2), where REF starts, how long REF is, and for copies 0 and 1 where the bytes of
--- the allele stand: in the text of its list or in the reference, from where on, and how many.
+-- A table of entries, as numbers: nine a row. A row says the entry's list (1 or 2), where REF starts, how long REF is, and for copies 0 and
+-- 1 where the bytes of the allele stand: in the text of its list or in the reference, from where on, and how many.
 -- Assumes nothing: these are definitions.
 use mathlib.Core.List.{List, [], _∷_}
 use Prim.Native.Nat.{ℕ, zero, suc, _+_, _*_}

@@ -27,8 +27,15 @@ fn shorter(a: usize, b: usize) -> usize
 
 // Adds the rest to a donor, the reference up to place `to`, and says how long it then is. Nothing else of `out` changes.
 fn add_rest(reference: &[u8], built: Built, to: usize, out: &mut [u8]) -> usize
-    requires { ⌜ (built .at ≤ to) × (to ≤ length (now reference)) × (built .len + length (part (now reference) (built .at) to) ≤ length (now out)) ⌝ }
-    ensures { λ r. ⌜ (r ≡ built .len + length (part (now (reference .entry)) (built .at) to)) × (now (out .exit) ≡ put (now (out .entry)) (built .len) (part (now (reference .entry)) (built .at) to)) ⌝ }
+    requires { ⌜
+        (built .at ≤ to)
+        × (to ≤ length (now reference))
+        × (built .len + length (part (now reference) (built .at) to) ≤ length (now out))
+        ⌝ }
+    ensures { λ r. ⌜
+        (r ≡ built .len + length (part (now (reference .entry)) (built .at) to))
+        × (now (out .exit) ≡ put (now (out .entry)) (built .len) (part (now (reference .entry)) (built .at) to))
+        ⌝ }
 {
     let at = built.at;
     put_bytes(&reference[at..to], out, built.len)
@@ -36,14 +43,20 @@ fn add_rest(reference: &[u8], built: Built, to: usize, out: &mut [u8]) -> usize
 
 // Do the first x bases of one and the first y of another agree behind place `seen`, as far as both go?
 fn agree_behind(one: &[u8], x: usize, two: &[u8], y: usize, seen: usize) -> bool
-    requires { ⌜ (seen ≤ x) × (x ≤ length (now one)) × (seen ≤ y) × (y ≤ length (now two)) ⌝ }
+    requires { ⌜
+        (seen ≤ x)
+        × (x ≤ length (now one))
+        × (seen ≤ y)
+        × (y ≤ length (now two))
+        ⌝ }
     ensures { λ r. ⌜ r ≡ agree? (basesOf (part (now (one .entry)) seen x)) (basesOf (part (now (two .entry)) seen y)) ⌝ }
 {
     agree(&one[seen..x], &two[seen..y])
 }
 
-// Are the donors of the two lists on a copy equal, with the first n entries of the table and their choices? All entries lie between places `from` and `to` of
-// the reference. The two are built side by side, and the first bases that differ end it. `mine` and `other` are room to build in: what is left there is not told.
+// Are the donors of the two lists on a copy equal, with the first n entries of the table and their choices? All entries lie between places
+// `from` and `to` of the reference. The two are built side by side, and the first bases that differ end it. `mine` and `other` are room to
+// build in: what is left there is not told.
 pub fn donors_agree(
     reference: &[u8],
     first: &[u8],
@@ -57,8 +70,13 @@ pub fn donors_agree(
     mine: &mut [u8],
     other: &mut [u8],
 ) -> bool
-    requires { ⌜ Ready (now reference) (now first) (now second) (now table) n from to (length (now mine)) (length (now other)) × ApartOn (now reference) (now first) (now second) (now table) choices (copyOf copy) n ⌝ }
-    ensures { λ r. ⌜ r ≡ oneDonor? (now (reference .entry)) (now (first .entry)) (now (second .entry)) (now (table .entry)) choices (copyOf copy) n ⌝ }
+    requires { ⌜
+        Ready (now reference) (now first) (now second) (now table) n from to (length (now mine)) (length (now other))
+        × ApartOn (now reference) (now first) (now second) (now table) choices (copyOf copy) n
+        ⌝ }
+    ensures { λ r. ⌜
+        r ≡ oneDonor? (now (reference .entry)) (now (first .entry)) (now (second .entry)) (now (table .entry)) choices (copyOf copy) n
+        ⌝ }
 {
     let mut a = Built { at: from, len: 0 };
     let mut b = Built { at: from, len: 0 };

@@ -1,4 +1,5 @@
-// The donor of a list on a copy, built in a lent buffer entry by entry. Nothing is cleared before: what stands behind the donor in the buffer is what stood there.
+// The donor of a list on a copy, built in a lent buffer entry by entry. Nothing is cleared before: what stands behind the donor in the
+// buffer is what stood there.
 ghost use mathlib.Core.Bool.{true};
 ghost use mathlib.Core.Path.{_≡_};
 ghost use Prim.Native.Nat.{_+_, _*_, _≤_};
@@ -16,8 +17,14 @@ use bases::put::put_bytes;
 
 // Writes an allele's bytes into `out` from `at` on, and says where they end. Nothing else of `out` changes.
 fn put_allele(reference: &[u8], text: &[u8], allele: Allele, out: &mut [u8], at: usize) -> usize
-    requires { ⌜ (allele .at + allele .len ≤ length (pick (allele .text) (now text) (now reference))) × (at + allele .len ≤ length (now out)) ⌝ }
-    ensures { λ r. ⌜ (r ≡ at + allele .len) × (now (out .exit) ≡ put (now (out .entry)) at (alleleBytes (now (reference .entry)) (now (text .entry)) allele)) ⌝ }
+    requires { ⌜
+        (allele .at + allele .len ≤ length (pick (allele .text) (now text) (now reference)))
+        × (at + allele .len ≤ length (now out))
+        ⌝ }
+    ensures { λ r. ⌜
+        (r ≡ at + allele .len)
+        × (now (out .exit) ≡ put (now (out .entry)) at (alleleBytes (now (reference .entry)) (now (text .entry)) allele))
+        ⌝ }
 {
     let from = allele.at;
     if allele.text {
@@ -46,8 +53,17 @@ pub fn add_row(
     built: Built,
     out: &mut [u8],
 ) -> Built
-    requires { ⌜ (i * width + width ≤ length (now table)) × (chosen? (choiceOf choice) ≡ true) × Fits (now reference) (now text) (rowAt (now table) i) (choiceOf choice) first (copyOf copy) built (length (now out)) ⌝ }
-    ensures { λ r. ⌜ (r ≡ builtAfter (now (reference .entry)) (now (text .entry)) (rowAt (now (table .entry)) i) (choiceOf choice) first (copyOf copy) built) × (now (out .exit) ≡ outAfter (now (reference .entry)) (now (text .entry)) (rowAt (now (table .entry)) i) (choiceOf choice) first (copyOf copy) built (now (out .entry))) ⌝ }
+    requires { ⌜
+        (i * width + width ≤ length (now table))
+        × (chosen? (choiceOf choice) ≡ true)
+        × Fits (now reference) (now text) (rowAt (now table) i) (choiceOf choice) first (copyOf copy) built (length (now out))
+        ⌝ }
+    ensures { λ r. ⌜
+        (r ≡ builtAfter (now (reference .entry)) (now (text .entry)) (rowAt (now (table .entry)) i) (choiceOf choice) first (copyOf copy)
+        built)
+        × (now (out .exit) ≡ outAfter (now (reference .entry)) (now (text .entry)) (rowAt (now (table .entry)) i) (choiceOf choice) first
+        (copyOf copy) built (now (out .entry)))
+        ⌝ }
 {
     if !is_of(table, i, first) {
         return built;

@@ -103,7 +103,10 @@ fn place_of(choice: u8, copy: usize) -> usize
 
 // The allele that the entry of row i, chosen, puts on a copy.
 pub fn allele_of(table: &[usize], i: usize, choice: u8, copy: usize) -> Allele
-    requires { ⌜ (i * width + width ≤ length (now table)) × (chosen? (choiceOf choice) ≡ true) ⌝ }
+    requires { ⌜
+        (i * width + width ≤ length (now table))
+        × (chosen? (choiceOf choice) ≡ true)
+        ⌝ }
     ensures { λ r. ⌜ r ≡ alleleOf (rowAt (now (table .entry)) i) (choiceOf choice) (copyOf copy) ⌝ }
 {
     let place = place_of(choice, copy);

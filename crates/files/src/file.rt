@@ -5,7 +5,8 @@ ghost use Rattle.files.specs.File.{endsInLf?};
 use vcf::bytes::LF;
 use vcf::list::LONGEST_TEXT;
 
-// One byte more than the longest text that is accepted, and than the longest reference with its LF: a longer file is not cut to one that is accepted.
+// One byte more than the longest text that is accepted, and than the longest reference with its LF: a longer file is not cut to one that is
+// accepted.
 pub const FILE_ROOM: usize = LONGEST_TEXT + 1;
 
 // Reads the file into the room, from its start on, and answers how many bytes that are. A file that cannot be read counts as empty.

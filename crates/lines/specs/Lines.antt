@@ -1,5 +1,5 @@
--- Numbers and the line of a refusal, as the programs print them. Document 01: fields are TAB-separated; on refusal the only line is `refused`, number,
--- list, line.
+-- Numbers and the line of a refusal, as the programs print them. Document 01: fields are TAB-separated; on refusal the only line is
+-- `refused`, number, list, line.
 -- Assumes nothing: these are definitions.
 use mathlib.Core.List.{List, [], _∷_, _++_}
 use Prim.Native.Nat.{ℕ, _+_, _*_}

@@ -10,8 +10,16 @@ use vcf::bytes::LF;
 
 // Writes the text for a refusal at the start of the room.
 pub fn refused_text(number: usize, list: usize, line: usize, out: &mut [u8]) -> usize
-    requires { ⌜ (number ≤ largestNumber) × (list ≤ largestNumber) × (line ≤ largestNumber) × (refusedMost ≤ length (now out)) ⌝ }
-    ensures { λ r. ⌜ (r ≡ length (refusedText number list line)) × (now (out .exit) ≡ put (now (out .entry)) 0 (refusedText number list line)) ⌝ }
+    requires { ⌜
+        (number ≤ largestNumber)
+        × (list ≤ largestNumber)
+        × (line ≤ largestNumber)
+        × (refusedMost ≤ length (now out))
+        ⌝ }
+    ensures { λ r. ⌜
+        (r ≡ length (refusedText number list line))
+        × (now (out .exit) ≡ put (now (out .entry)) 0 (refusedText number list line))
+        ⌝ }
 {
     let next = put_bytes(b"refused\t", out, 0);
     put_fields(number, list, line, LF, out, next)

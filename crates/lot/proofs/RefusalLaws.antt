@@ -40,7 +40,8 @@ Large r = (mostRecords < truthOf r) ⊎ (mostRecords < calledOf r)
 
 pub large-iff : (r : Run) → (large? r ≡ true) ↔ Large r
 large-iff r =
-    or-iff (ltb mostRecords (truthOf r)) (ltb mostRecords (calledOf r)) (ltb-true mostRecords (truthOf r), lt-ltb mostRecords (truthOf r)) (ltb-true mostRecords (calledOf r), lt-ltb mostRecords (calledOf r))
+    or-iff (ltb mostRecords (truthOf r)) (ltb mostRecords (calledOf r)) (ltb-true mostRecords (truthOf r), lt-ltb mostRecords (truthOf r))
+    (ltb-true mostRecords (calledOf r), lt-ltb mostRecords (calledOf r))
 
 abbrev pub HasLarge : List Run → Type 0
 HasLarge rs = (k : ℕ) × ((k < length rs) × Large (getD rs k noRun))

@@ -55,10 +55,26 @@ both-both a b c =
     cc (e1, e2, e3, e4, e5, e6)
 
 none-both : (a : Run) → bothRuns noRun a ≡ a
-none-both a = λ i. record { matched1 = zero-add (a .matched1) i; unmatched1 = zero-add (a .unmatched1) i; undecided1 = zero-add (a .undecided1) i; matched2 = zero-add (a .matched2) i; unmatched2 = zero-add (a .unmatched2) i; undecided2 = zero-add (a .undecided2) i }
+none-both a = λ i. record {
+  matched1 = zero-add (a .matched1) i;
+  unmatched1 = zero-add (a .unmatched1) i;
+  undecided1 = zero-add (a .undecided1) i;
+  matched2 = zero-add (a .matched2) i;
+  unmatched2 =
+      zero-add (a .unmatched2) i;
+  undecided2 = zero-add (a .undecided2) i;
+}
 
 both-none : (a : Run) → bothRuns a noRun ≡ a
-both-none a = λ i. record { matched1 = add-zero (a .matched1) i; unmatched1 = add-zero (a .unmatched1) i; undecided1 = add-zero (a .undecided1) i; matched2 = add-zero (a .matched2) i; unmatched2 = add-zero (a .unmatched2) i; undecided2 = add-zero (a .undecided2) i }
+both-none a = λ i. record {
+  matched1 = add-zero (a .matched1) i;
+  unmatched1 = add-zero (a .unmatched1) i;
+  undecided1 = add-zero (a .undecided1) i;
+  matched2 = add-zero (a .matched2) i;
+  unmatched2 =
+      add-zero (a .unmatched2) i;
+  undecided2 = add-zero (a .undecided2) i;
+}
 
 pub total-append : (rs qs : List Run) → totalOf (rs ++ qs) ≡ bothRuns (totalOf rs) (totalOf qs)
 unfolding totalOf

@@ -11,7 +11,8 @@ use Rattle.lot.specs.declared.run.Run.{Run}
 use Rattle.lot.specs.Run.{mostRuns, truthOf, calledOf, anyLarge?, noRun, totalOf}
 use Rattle.lot.specs.Share.{share, shareOf}
 
--- The row that holds of n runs, one of which is too large or none: 30 no run or more than 256, 31 a run's counts exceed 512 in a list; 30 first. 0: no row.
+-- The row that holds of n runs, one of which is too large or none: 30 no run or more than 256, 31 a run's counts exceed 512 in a list; 30
+-- first. 0: no row.
 abbrev pub rowOf : ℕ → Bool → ℕ
 rowOf n large = pick (eqb n 0 || ltb mostRuns n) 30 (pick large 31 0)
 

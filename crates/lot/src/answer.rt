@@ -9,8 +9,8 @@ use crate::share::share_of;
 use crate::sum::Sum;
 use crate::sum::no_sum;
 
-// Where it is refused: the number, list and line of the refusal, and zeros. Else number, list and line 0, the totals of the six counts, the entries of the
-// truth and of what was called, and recall and precision.
+// Where it is refused: the number, list and line of the refusal, and zeros. Else number, list and line 0, the totals of the six counts, the
+// entries of the truth and of what was called, and recall and precision.
 pub struct Lot {
     pub number: u32,
     pub list: u32,

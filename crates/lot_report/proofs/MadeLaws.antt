@@ -50,8 +50,10 @@ lineOf n = joined (n .name) (map number (counts (n .run)))
 each : (P : List ℕ → Type 0) → ((k : ℕ) → k ≤ largestPos → P (number k)) → (r : Run) → large? r ≡ false → All P (map number (counts r))
 each P f r e =
     let t = small-truth r e in
-    let c = small-called r e in
-    (f (r .matched1) (omega arith), (f (r .unmatched1) (omega arith), (f (r .undecided1) (omega arith), (f (r .matched2) (omega arith), (f (r .unmatched2) (omega arith), (f (r .undecided2) (omega arith), tt))))))
+    let c = small-called r e in (
+      f (r .matched1) (omega arith),
+      (f (r .unmatched1) (omega arith), (f (r .undecided1) (omega arith), (f (r .matched2) (omega arith), (f (r .unmatched2) (omega arith), (f (r .undecided2) (omega arith), tt))))),
+    )
 
 module _ (n : Named) (s : Sound n) where
   free : All (Without TAB) (map number (counts (n .run)))

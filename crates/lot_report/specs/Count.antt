@@ -1,5 +1,5 @@
--- A count in a line of runs.tsv: decimal, no leading zero (`0` itself is fine), of any size. What is above 4,294,967,295 is read as that, and so is
--- refused by the lot.
+-- A count in a line of runs.tsv: decimal, no leading zero (`0` itself is fine), of any size. What is above 4,294,967,295 is read as that,
+-- and so is refused by the lot.
 -- Assumes nothing: these are definitions.
 use mathlib.Core.Bool.{Bool, not, _&&_, _||_}
 use mathlib.Core.List.{List}

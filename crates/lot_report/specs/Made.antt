@@ -1,4 +1,5 @@
--- runs.tsv as ./lot makes it: the heading, and for each run its name, a TAB and the line that program counts prints for it; and what is printed for that.
+-- runs.tsv as ./lot makes it: the heading, and for each run its name, a TAB and the line that program counts prints for it; and what is
+-- printed for that.
 -- Assumes nothing: these are definitions.
 use mathlib.Core.Bool.{false}
 use mathlib.Core.List.{List, [], _∷_, _++_, map}

@@ -1,6 +1,6 @@
--- What lot_report prints for the bytes of runs.tsv. A file that cannot be read counts as empty. Refused, in this order: 3 the text is over 65,536 bytes or does
--- not end in LF (so also empty), line 0; 5 line 1 is not the heading; 6 the first line that is no run, with its number; then 30 and 31 as the lot tells them.
--- The list is 0.
+-- What lot_report prints for the bytes of runs.tsv. A file that cannot be read counts as empty. Refused, in this order: 3 the text is over
+-- 65,536 bytes or does not end in LF (so also empty), line 0; 5 line 1 is not the heading; 6 the first line that is no run, with its
+-- number; then 30 and 31 as the lot tells them. The list is 0.
 -- Assumes nothing: these are definitions.
 use mathlib.Core.Bool.{not}
 use mathlib.Core.List.{List}

@@ -1,4 +1,5 @@
--- The lines of runs.tsv: line 1 is the heading, and each line behind it is a run: a name, which is not empty, and six counts, TAB-separated.
+-- The lines of runs.tsv: line 1 is the heading, and each line behind it is a run: a name, which is not empty, and six counts,
+-- TAB-separated.
 -- Assumes nothing: these are definitions.
 use mathlib.Core.Bool.{Bool, true, _&&_}
 use mathlib.Core.List.{List, [], _∷_, map}

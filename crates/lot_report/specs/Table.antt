@@ -1,6 +1,7 @@
--- The table that lot_report prints: a heading, a line a run in the order read, and a last line `lot` for the totals. Each line gives the name; of the truth
--- the entries, those matched and those undecided; the same of what was called; recall as `n/d`, as parts per million and as a percentage with
--- four digits behind the point; precision likewise. Where the lower number is zero, `none` stands in all three columns. Fields are TAB-separated.
+-- The table that lot_report prints: a heading, a line a run in the order read, and a last line `lot` for the totals. Each line gives the
+-- name; of the truth the entries, those matched and those undecided; the same of what was called; recall as `n/d`, as parts per million and
+-- as a percentage with four digits behind the point; precision likewise. Where the lower number is zero, `none` stands in all three
+-- columns. Fields are TAB-separated.
 -- Assumes nothing: these are definitions.
 use mathlib.Core.List.{List, [], _∷_, _++_}
 use Prim.Native.Nat.{ℕ, _+_, _*_, _/_, _%_}

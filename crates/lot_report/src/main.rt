@@ -1,5 +1,5 @@
-// The program lot_report: reads runs.tsv, a line a run with its six counts, and prints recall and precision of each run and of the lot. The contracts cite
-// specs/.
+// The program lot_report: reads runs.tsv, a line a run with its six counts, and prints recall and precision of each run and of the lot. The
+// contracts cite specs/.
 mod count;
 mod report;
 mod run;

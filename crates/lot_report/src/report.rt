@@ -21,8 +21,16 @@ use vcf::list::LONGEST_TEXT;
 
 // Writes what is printed for the lines from `from` on, each of which is a run.
 fn report_runs(text: &[u8], from: usize, out: &mut [u8]) -> usize
-    requires { ⌜ T (allRuns? (linesOf (drop from (now text)))) × (from ≤ length (now text) + 1) × (length (now text) ≤ longestText) × (tableMost ≤ length (now out)) ⌝ }
-    ensures { λ r. ⌜ (r ≡ length (runsReport (linesOf (drop from (now (text .entry)))))) × (now (out .exit) ≡ put (now (out .entry)) 0 (runsReport (linesOf (drop from (now (text .entry)))))) ⌝ }
+    requires { ⌜
+        T (allRuns? (linesOf (drop from (now text))))
+        × (from ≤ length (now text) + 1)
+        × (length (now text) ≤ longestText)
+        × (tableMost ≤ length (now out))
+        ⌝ }
+    ensures { λ r. ⌜
+        (r ≡ length (runsReport (linesOf (drop from (now (text .entry))))))
+        × (now (out .exit) ≡ put (now (out .entry)) 0 (runsReport (linesOf (drop from (now (text .entry))))))
+        ⌝ }
 {
     let n = count_lines(text, from);
     let lot = lot_of_first(first_runs(text, from), n);
@@ -40,7 +48,10 @@ fn report_runs(text: &[u8], from: usize, out: &mut [u8]) -> usize
 // Writes what is printed for the text at the start of the room, and says how many bytes that is.
 pub fn report_text(text: &[u8], out: &mut [u8]) -> usize
     requires { ⌜ tableMost ≤ length (now out) ⌝ }
-    ensures { λ r. ⌜ (r ≡ length (reportText (now (text .entry)))) × (now (out .exit) ≡ put (now (out .entry)) 0 (reportText (now (text .entry)))) ⌝ }
+    ensures { λ r. ⌜
+        (r ≡ length (reportText (now (text .entry))))
+        × (now (out .exit) ≡ put (now (out .entry)) 0 (reportText (now (text .entry))))
+        ⌝ }
 {
     if LONGEST_TEXT < text.len() {
         return refused_text(3, 0, 0, out);

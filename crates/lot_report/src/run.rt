@@ -56,7 +56,11 @@ pub fn is_run(line: &[u8]) -> bool
 
 // The k-th count of a run.
 fn count_on(line: &[u8], k: usize) -> u32
-    requires { ⌜ T (run? (now line)) × (1 ≤ k) × (k ≤ countsOfRun) ⌝ }
+    requires { ⌜
+        T (run? (now line))
+        × (1 ≤ k)
+        × (k ≤ countsOfRun)
+        ⌝ }
     ensures { λ r. ⌜ r ≡ countOf (field k (now (line .entry))) ⌝ }
 {
     let at = skip_fields(line, 0, k);

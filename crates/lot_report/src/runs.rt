@@ -29,7 +29,10 @@ pub fn count_lines(text: &[u8], from: usize) -> usize
 
 // The runs on the lines from `from` on, the first 256 of them; behind the last one stand runs without entries.
 pub fn first_runs(text: &[u8], from: usize) -> [Run; MOST_RUNS]
-    requires { ⌜ T (allRuns? (linesOf (drop from (now text)))) × (from ≤ length (now text) + 1) ⌝ }
+    requires { ⌜
+        T (allRuns? (linesOf (drop from (now text))))
+        × (from ≤ length (now text) + 1)
+        ⌝ }
     ensures { λ r. ⌜ r ≡ put noRuns 0 (take mostRuns (runsOn (linesOf (drop from (now (text .entry)))))) ⌝ }
 {
     let mut runs = [Run {

@@ -15,7 +15,10 @@ use vcf::bytes::TAB;
 // Writes the last four digits of a number.
 fn put_four(n: usize, out: &mut [u8], at: usize) -> usize
     requires { ⌜ at + 4 ≤ length (now out) ⌝ }
-    ensures { λ r. ⌜ (r ≡ at + length (fourDigits n)) × (now (out .exit) ≡ put (now (out .entry)) at (fourDigits n)) ⌝ }
+    ensures { λ r. ⌜
+        (r ≡ at + length (fourDigits n))
+        × (now (out .exit) ≡ put (now (out .entry)) at (fourDigits n))
+        ⌝ }
 {
     let a = put_byte(b'0' + (n / 1000 % 10) as u8, out, at);
     let b = put_byte(b'0' + (n / 100 % 10) as u8, out, a);
@@ -25,8 +28,14 @@ fn put_four(n: usize, out: &mut [u8], at: usize) -> usize
 
 // Writes parts per million as a percentage.
 fn put_percent(ppm: usize, out: &mut [u8], at: usize) -> usize
-    requires { ⌜ (ppm ≤ largestNumber) × (at + percentMost ≤ length (now out)) ⌝ }
-    ensures { λ r. ⌜ (r ≡ at + length (percent ppm)) × (now (out .exit) ≡ put (now (out .entry)) at (percent ppm)) ⌝ }
+    requires { ⌜
+        (ppm ≤ largestNumber)
+        × (at + percentMost ≤ length (now out))
+        ⌝ }
+    ensures { λ r. ⌜
+        (r ≡ at + length (percent ppm))
+        × (now (out .exit) ≡ put (now (out .entry)) at (percent ppm))
+        ⌝ }
 {
     let next = put_field(ppm / 10000, b'.', out, at);
     put_four(ppm, out, next)
@@ -34,8 +43,14 @@ fn put_percent(ppm: usize, out: &mut [u8], at: usize) -> usize
 
 // Writes a share and the byte behind it.
 pub fn put_share(share: Share, end: u8, out: &mut [u8], at: usize) -> usize
-    requires { ⌜ PrintableShare share × (at + shareMost ≤ length (now out)) ⌝ }
-    ensures { λ r. ⌜ (r ≡ at + length (shareText share end)) × (now (out .exit) ≡ put (now (out .entry)) at (shareText share end)) ⌝ }
+    requires { ⌜
+        PrintableShare share
+        × (at + shareMost ≤ length (now out))
+        ⌝ }
+    ensures { λ r. ⌜
+        (r ≡ at + length (shareText share end))
+        × (now (out .exit) ≡ put (now (out .entry)) at (shareText share end))
+        ⌝ }
 {
     if share.bottom == 0 {
         let next = put_bytes(b"none\tnone\tnone", out, at);

@@ -1,4 +1,5 @@
-// The table that is printed, written into lent room. Each function says where what it wrote ends, and leaves every other byte of the room as it was.
+// The table that is printed, written into lent room. Each function says where what it wrote ends, and leaves every other byte of the room
+// as it was.
 ghost use mathlib.Core.Path.{_≡_};
 ghost use Prim.Native.Nat.{_+_, _-_, _*_, _≤_};
 ghost use lib.ListN.{length, drop};
@@ -29,8 +30,14 @@ pub const TABLE_MOST: usize = 154 + (LONGEST_TEXT + LINE_MOST * MOST_RUNS) + (3 
 
 // Writes the line of a name and a lot.
 fn put_line(name: &[u8], lot: Lot, out: &mut [u8], at: usize) -> usize
-    requires { ⌜ Printable lot × (at + (length (now name) + lineMost) ≤ length (now out)) ⌝ }
-    ensures { λ r. ⌜ (r ≡ at + length (lineText (now (name .entry)) lot)) × (now (out .exit) ≡ put (now (out .entry)) at (lineText (now (name .entry)) lot)) ⌝ }
+    requires { ⌜
+        Printable lot
+        × (at + (length (now name) + lineMost) ≤ length (now out))
+        ⌝ }
+    ensures { λ r. ⌜
+        (r ≡ at + length (lineText (now (name .entry)) lot))
+        × (now (out .exit) ≡ put (now (out .entry)) at (lineText (now (name .entry)) lot))
+        ⌝ }
 {
     let total = lot.total;
     let a = put_bytes(name, out, at);
@@ -59,8 +66,14 @@ fn put_line(name: &[u8], lot: Lot, out: &mut [u8], at: usize) -> usize
 
 // Writes the line of a run: that of a lot of this run alone.
 fn put_run(line: &[u8], out: &mut [u8], at: usize) -> usize
-    requires { ⌜ Fine (now line) × (at + (length (now line) + lineMost) ≤ length (now out)) ⌝ }
-    ensures { λ r. ⌜ (r ≡ at + length (runText (now (line .entry)))) × (now (out .exit) ≡ put (now (out .entry)) at (runText (now (line .entry)))) ⌝ }
+    requires { ⌜
+        Fine (now line)
+        × (at + (length (now line) + lineMost) ≤ length (now out))
+        ⌝ }
+    ensures { λ r. ⌜
+        (r ≡ at + length (runText (now (line .entry))))
+        × (now (out .exit) ≡ put (now (out .entry)) at (runText (now (line .entry))))
+        ⌝ }
 {
     let run = run_on(line);
     let lot = lot_of_first([run; MOST_RUNS], 1);
@@ -69,8 +82,15 @@ fn put_run(line: &[u8], out: &mut [u8], at: usize) -> usize
 
 // Writes the lines of the runs on the lines from `from` on.
 fn put_runs(text: &[u8], from: usize, out: &mut [u8], at: usize) -> usize
-    requires { ⌜ AllFine (linesOf (drop from (now text))) × (from ≤ length (now text) + 1) × (at + (length (now text) - from + lineMost * length (linesOf (drop from (now text)))) ≤ length (now out)) ⌝ }
-    ensures { λ r. ⌜ (r ≡ at + length (runsText (linesOf (drop from (now (text .entry)))))) × (now (out .exit) ≡ put (now (out .entry)) at (runsText (linesOf (drop from (now (text .entry)))))) ⌝ }
+    requires { ⌜
+        AllFine (linesOf (drop from (now text)))
+        × (from ≤ length (now text) + 1)
+        × (at + (length (now text) - from + lineMost * length (linesOf (drop from (now text)))) ≤ length (now out))
+        ⌝ }
+    ensures { λ r. ⌜
+        (r ≡ at + length (runsText (linesOf (drop from (now (text .entry))))))
+        × (now (out .exit) ≡ put (now (out .entry)) at (runsText (linesOf (drop from (now (text .entry))))))
+        ⌝ }
 {
     let mut place = from;
     let mut next = at;
@@ -84,11 +104,18 @@ fn put_runs(text: &[u8], from: usize, out: &mut [u8], at: usize) -> usize
 
 // Writes the table at the start of the room, for the lot of the runs on the lines from `from` on.
 pub fn put_table(text: &[u8], from: usize, lot: Lot, out: &mut [u8]) -> usize
-    requires { ⌜ Accepted (now text) from lot × (tableMost ≤ length (now out)) ⌝ }
-    ensures { λ r. ⌜ (r ≡ length (tableText (linesOf (drop from (now (text .entry)))))) × (now (out .exit) ≡ put (now (out .entry)) 0 (tableText (linesOf (drop from (now (text .entry)))))) ⌝ }
+    requires { ⌜
+        Accepted (now text) from lot
+        × (tableMost ≤ length (now out))
+        ⌝ }
+    ensures { λ r. ⌜
+        (r ≡ length (tableText (linesOf (drop from (now (text .entry))))))
+        × (now (out .exit) ≡ put (now (out .entry)) 0 (tableText (linesOf (drop from (now (text .entry))))))
+        ⌝ }
 {
     let first = put_bytes(
-        b"run\ttruth\ttruth_matched\ttruth_undecided\tcalled\tcalled_matched\tcalled_undecided\trecall\trecall_ppm\trecall_percent\tprecision\tprecision_ppm\tprecision_percent\n",
+        b"run\ttruth\ttruth_matched\ttruth_undecided\tcalled\tcalled_matched\tcalled_undecided\t\
+          recall\trecall_ppm\trecall_percent\tprecision\tprecision_ppm\tprecision_percent\n",
         out,
         0,
     );

@@ -59,7 +59,13 @@ module _ (reference first second t : List ℕ) where
         → cardLegal? (basesOf reference) (entries 0 n) (choicesFrom choices 0 n) ≡ u && (v && true)
     unfolding every?
     legal-donors u v e f =
-        rw (eq-eqb (length (choicesFrom choices 0 n)) (length (entries 0 n)) (choices-length choices 0 n ∙ sym (entries-length 0 n)), is-true (keep? cardRules cardFinite (entries 0 n) (choicesFrom choices 0 n)) k, e, f)
+        rw (
+          eq-eqb (length (choicesFrom choices 0 n)) (length (entries 0 n)) (choices-length choices 0 n ∙ sym (entries-length 0 n)),
+          is-true
+              (keep? cardRules cardFinite (entries 0 n) (choicesFrom choices 0 n)) k,
+          e,
+          f,
+        )
 
     pub legal-not : (h : Copy) → oneDonor? reference first second t choices h n ≡ false → cardLegal? (basesOf reference) (entries 0 n) (choicesFrom choices 0 n) ≡ false
     legal-not copy0 e = legal-donors false _ e refl

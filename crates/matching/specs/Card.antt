@@ -67,7 +67,8 @@ cardFinite = record {
 abbrev pub cardBest : List ℕ → List Variant → List Choice
 cardBest R xs = bestOf cardRules cardFinite cardScoring R xs
 
--- A legal pair of choices in document 01's words: no two chosen entries of one list overlap, and the lists' donors are equal on copy 0 and on copy 1.
+-- A legal pair of choices in document 01's words: no two chosen entries of one list overlap, and the lists' donors are equal on copy 0 and
+-- on copy 1.
 pub record LegalPair (R : List ℕ) (xs : List Variant) (φ : List Choice) : Type 0 where
   pub long : length φ ≡ length xs
   pub apart : (j : Bool) → Pairwise SpansApart (chosenOf j xs φ)
@@ -78,6 +79,7 @@ pub record LegalPair (R : List ℕ) (xs : List Variant) (φ : List Choice) : Typ
 abbrev pub chosenCount : List Variant → List Choice → ℕ
 chosenCount xs φ = length (chosenOf list1 xs φ) + length (chosenOf list2 xs φ)
 
--- The best pair in document 01's words: of the legal pairs that with the most chosen entries, and among equals the first in dictionary order.
+-- The best pair in document 01's words: of the legal pairs that with the most chosen entries, and among equals the first in dictionary
+-- order.
 abbrev pub BestPair : List ℕ → List Variant → List Choice → Type 0
 BestPair R xs φ = Best rankOf (LegalPair R xs) (chosenCount xs) φ

@@ -33,7 +33,8 @@ module _ {C : Type 0} (rank : C → ℕ) where
     bestOver f [] = none
     bestOver f (c ∷ cs) = better (f c) (bestOver f cs)
 
-    -- The best legal string that goes on from φ, with n choices left to make; a choice that is not to be kept is dropped as soon as it is made.
+    -- The best legal string that goes on from φ, with n choices left to make; a choice that is not to be kept is dropped as soon as it is
+    -- made.
     unfoldable pub search : List C → (List C → Bool) → (List C → Bool) → ℕ → List C → Option (List C)
     search choices keep? legal? zero φ = cond (legal? φ) (some φ) none
     search choices keep? legal? (suc n) φ =

@@ -23,7 +23,8 @@ pub fn nothing() -> Best
     }
 }
 
-// Do the first n choices of c come first in dictionary order, or are they those of d? The bytes `+`, `-` and `0` stand in the order of their ranks.
+// Do the first n choices of c come first in dictionary order, or are they those of d? The bytes `+`, `-` and `0` stand in the order of
+// their ranks.
 pub fn precedes(c: [u8; MOST], d: [u8; MOST], n: usize) -> bool
     requires { ⌜ n ≤ most ⌝ }
     ensures { λ r. ⌜ r ≡ bytesFirst? n c d ⌝ }

@@ -1,5 +1,5 @@
-// Where the choices made so far end, in each list: entries stand in merged order, so the next one of a list overlaps none of them exactly if it starts there or
-// behind it.
+// Where the choices made so far end, in each list: entries stand in merged order, so the next one of a list overlaps none of them exactly
+// if it starts there or behind it.
 ghost use mathlib.Core.Path.{_≡_};
 ghost use Rattle.matching.specs.Made.{endBy, endsAfter};
 

@@ -30,8 +30,15 @@ fn is_legal(
     mine: &mut [u8],
     other: &mut [u8],
 ) -> bool
-    requires { ⌜ Ready (now reference) (now first) (now second) (now table) n from to (length (now mine)) (length (now other)) × Kept (variantsFrom (now reference) (now first) (now second) (now table) 0 n) (choicesFrom choices 0 n) ⌝ }
-    ensures { λ r. ⌜ r ≡ cardLegal? (basesOf (now (reference .entry))) (variantsFrom (now (reference .entry)) (now (first .entry)) (now (second .entry)) (now (table .entry)) 0 n) (choicesFrom choices 0 n) ⌝ }
+    requires { ⌜
+        Ready (now reference) (now first) (now second) (now table) n from to (length (now mine)) (length (now other))
+        × Kept (variantsFrom (now reference) (now first) (now second) (now table) 0 n) (choicesFrom choices 0 n)
+        ⌝ }
+    ensures { λ r. ⌜
+        r ≡ cardLegal? (basesOf (now (reference .entry)))
+        (variantsFrom (now (reference .entry)) (now (first .entry)) (now (second .entry)) (now (table .entry)) 0 n)
+        (choicesFrom choices 0 n)
+        ⌝ }
 {
     let mut copy: usize = 0;
     while copy < 2 {
@@ -55,9 +62,10 @@ fn is_legal(
     true
 }
 
-// The best legal choices that go on from those made, with `left` of the n entries left. Beside the choices made go the ends of each list and their score:
-// below a choice that overlaps an earlier one of its list nothing is tried. Nor is a choice that cannot change the answer: no answer scores more than `top`,
-// the score with every entry left chosen, and of equal ones the one tried first is kept. Behind the choices made the array has `0`.
+// The best legal choices that go on from those made, with `left` of the n entries left. Beside the choices made go the ends of each list
+// and their score: below a choice that overlaps an earlier one of its list nothing is tried. Nor is a choice that cannot change the answer:
+// no answer scores more than `top`, the score with every entry left chosen, and of equal ones the one tried first is kept. Behind the
+// choices made the array has `0`.
 fn search(
     reference: &[u8],
     first: &[u8],
@@ -73,8 +81,16 @@ fn search(
     mine: &mut [u8],
     other: &mut [u8],
 ) -> Best
-    requires { ⌜ Ready (now reference) (now first) (now second) (now table) n from to (length (now mine)) (length (now other)) × (left ≤ n) × Made (variantsFrom (now reference) (now first) (now second) (now table) 0 n) (choicesFrom choices 0 (n - left)) choices ends score ⌝ }
-    ensures { λ r. ⌜ r ≡ answerFrom (basesOf (now (reference .entry))) (variantsFrom (now (reference .entry)) (now (first .entry)) (now (second .entry)) (now (table .entry)) 0 n) left (choicesFrom choices 0 (n - left)) ⌝ }
+    requires { ⌜
+        Ready (now reference) (now first) (now second) (now table) n from to (length (now mine)) (length (now other))
+        × (left ≤ n)
+        × Made (variantsFrom (now reference) (now first) (now second) (now table) 0 n) (choicesFrom choices 0 (n - left)) choices ends score
+        ⌝ }
+    ensures { λ r. ⌜
+        r ≡ answerFrom (basesOf (now (reference .entry)))
+        (variantsFrom (now (reference .entry)) (now (first .entry)) (now (second .entry)) (now (table .entry)) 0 n) left
+        (choicesFrom choices 0 (n - left))
+        ⌝ }
 {
     if left == 0 {
         if is_legal(
@@ -162,8 +178,9 @@ fn search(
     better(n, best, z)
 }
 
-// The best choices for the first n entries of the table: the highest score, and among equals the first in dictionary order. All entries lie between places
-// `from` and `to` of the reference. Behind the n choices the array has `0`. `mine` and `other` are room to build in: what is left there is not told.
+// The best choices for the first n entries of the table: the highest score, and among equals the first in dictionary order. All entries lie
+// between places `from` and `to` of the reference. Behind the n choices the array has `0`. `mine` and `other` are room to build in: what is
+// left there is not told.
 pub fn best_choices(
     reference: &[u8],
     first: &[u8],
@@ -176,7 +193,10 @@ pub fn best_choices(
     other: &mut [u8],
 ) -> Best
     requires { ⌜ Ready (now reference) (now first) (now second) (now table) n from to (length (now mine)) (length (now other)) ⌝ }
-    ensures { λ r. ⌜ r ≡ bestAnswer (basesOf (now (reference .entry))) (variantsFrom (now (reference .entry)) (now (first .entry)) (now (second .entry)) (now (table .entry)) 0 n) ⌝ }
+    ensures { λ r. ⌜
+        r ≡ bestAnswer (basesOf (now (reference .entry)))
+        (variantsFrom (now (reference .entry)) (now (first .entry)) (now (second .entry)) (now (table .entry)) 0 n)
+        ⌝ }
 {
     let choices = [b'0'; MOST];
     let ends = Ends {

@@ -65,7 +65,8 @@ twin-cuts r s a b =
     ∙ ap (λ (n : ℕ). run (frontAlike? (two s a b)) (shortest a (b ∷ []) - (n + 1))) q in
     cc
 
-last-three : (r : List ℕ) (s : Place) (a text : List ℕ) (p q : Part) (t : Bool) → cutsOf r (three s a (basesOf (bytesOf text p)) (basesOf (bytesOf text (pick t q p)))) ≡ cutsOf r (record { start = s; ref = a; alts = pick t (basesOf (bytesOf text p) ∷ basesOf (bytesOf text q) ∷ []) (basesOf (bytesOf text p) ∷ []) })
+last-three : (r : List ℕ) (s : Place) (a text : List ℕ) (p q : Part) (t : Bool) → cutsOf r (three s a (basesOf (bytesOf text p)) (basesOf (bytesOf text (pick t q p))))
+    ≡ cutsOf r (record { start = s; ref = a; alts = pick t (basesOf (bytesOf text p) ∷ basesOf (bytesOf text q) ∷ []) (basesOf (bytesOf text p) ∷ []) })
 last-three r s a text p q true = refl
 last-three r s a text p q false = twin-cuts r s a (basesOf (bytesOf text p))
 
@@ -73,7 +74,9 @@ last-three r s a text p q false = twin-cuts r s a (basesOf (bytesOf text p))
 abbrev pub refBytes : List ℕ → Entry → List ℕ
 refBytes reference e = bytesOf reference (part (startOf e .0) (e .reference .len))
 
-pub entry-three : (reference text : List ℕ) (e : Entry) → cutsOf (basesOf reference) (three (startOf e) (basesOf (refBytes reference e)) (basesOf (bytesOf text (e .first))) (basesOf (bytesOf text (lastAlt e)))) ≡ cutsOf (basesOf reference) (formOf reference text e)
+pub entry-three : (reference text : List ℕ) (e : Entry)
+    → cutsOf (basesOf reference) (three (startOf e) (basesOf (refBytes reference e)) (basesOf (bytesOf text (e .first))) (basesOf (bytesOf text (lastAlt e))))
+    ≡ cutsOf (basesOf reference) (formOf reference text e)
 entry-three reference text e =
     last-three (basesOf reference) (startOf e) (basesOf (refBytes reference e)) text (e .first) (e .second) (eqb (e .alts) 2)
 
@@ -115,6 +118,8 @@ pub spelled-is : (k : Cuts) (p : Part) {front at len : ℕ} → front ≡ takenI
     → _≡_ {A = Spelled} record { front = front; own = part at len } (spelled k p)
 spelled-is k p ef ea el = cc
 
-pub normal-entry-of : (reference text : List ℕ) (e : Entry) (s : Place) (k : Cuts) (g : ℕ) (a b : Spelled) → s ≡ startOf e → k ≡ cutsOf (basesOf reference) (formOf reference text e) → g ≡ takenIn k → a ≡ spelled k (e .first) → b ≡ spelled k (lastAlt e) → record { start = record { 0 = s .0 + k .front - g }; span = s .0 + e .reference .len - k .back - (s .0 + k .front - g); first = a; second = b } ≡ normalEntry reference text e
+pub normal-entry-of : (reference text : List ℕ) (e : Entry) (s : Place) (k : Cuts) (g : ℕ) (a b : Spelled) → s ≡ startOf e → k ≡ cutsOf (basesOf reference) (formOf reference text e) → g ≡ takenIn k
+    → a ≡ spelled k (e .first) → b ≡ spelled k (lastAlt e)
+    → record { start = record { 0 = s .0 + k .front - g }; span = s .0 + e .reference .len - k .back - (s .0 + k .front - g); first = a; second = b } ≡ normalEntry reference text e
 unfolding normalEntry
 normal-entry-of reference text e s k g a b hs hk hg ha hb = cc

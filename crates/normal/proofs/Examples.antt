@@ -41,7 +41,8 @@ abbrev pub entry : ℕ → List ℕ → List ℕ → Form
 entry pos ref alt = record { start = placeOf (record { 0 = pos }); ref = ref; alts = alt ∷ [] }
 
 -- What the closed form computes is the normal form.
-computed : (r : List ℕ) (pos : ℕ) (ref alt : List ℕ) (g : Form) → OnReference r (entry pos ref alt) → 1 ≤ length ref → 1 ≤ length alt → normalOf r (entry pos ref alt) ≡ g → NormalForm r (entry pos ref alt) g
+computed : (r : List ℕ) (pos : ℕ) (ref alt : List ℕ) (g : Form) → OnReference r (entry pos ref alt) → 1 ≤ length ref → 1 ≤ length alt → normalOf r (entry pos ref alt) ≡ g
+    → NormalForm r (entry pos ref alt) g
 computed r pos ref alt g on h k e = subst (NormalForm r (entry pos ref alt)) e (normal-exists r (entry pos ref alt) on some)
   where
     some : NoneEmpty (entry pos ref alt)

@@ -71,7 +71,8 @@ module _ (reference l : List ℕ) (good : T (allLetters? reference)) (one : With
   abbrev e : Entry
   e = entryOf l 0
 
-  pub line-shrinks : Shrinks (eqb (altCount (field 4 l)) 2) (placeOf (posOn l)) (basesOf (refBytes reference e)) (basesOf (bytesOf l (e .first))) (basesOf (bytesOf l (e .second))) (newOn reference l .start) (basesOf (newRef reference l)) (basesOf (newFirst reference l)) (basesOf (newSecond reference l))
+  pub line-shrinks : Shrinks (eqb (altCount (field 4 l)) 2) (placeOf (posOn l)) (basesOf (refBytes reference e)) (basesOf (bytesOf l (e .first))) (basesOf (bytesOf l (e .second)))
+      (newOn reference l .start) (basesOf (newRef reference l)) (basesOf (newFirst reference l)) (basesOf (newSecond reference l))
   line-shrinks =
       let st = line-stands reference l good one line in
       shrinks (eqb (altCount (field 4 l)) 2) (basesOf reference) _ _ _ _ _ _ _ _ (form-on reference l e st) (form-some reference l e st) (line-normal reference l good one line)
@@ -118,7 +119,8 @@ module _ (reference l : List ℕ) (good : T (allLetters? reference)) (one : With
   second-ref t h = differ (secondAlt (field 4 l)) (field 3 l) (old-second (field 3 l) (field 4 l) (line .alts) t .0) (ap basesOf (sym (second-is reference l good one line t)) ∙ h ∙ sym (line .same))
 
   second-first : T (twoAlts? (field 4 l)) → basesOf (bytesOf l (e .second)) ≡ basesOf (bytesOf l (e .first)) → ⊥
-  second-first t h = differ (secondAlt (field 4 l)) (firstAlt (field 4 l)) (old-second (field 3 l) (field 4 l) (line .alts) t .1) (ap basesOf (sym (second-is reference l good one line t)) ∙ h ∙ ap basesOf (first-is reference l good one line))
+  second-first t h = differ (secondAlt (field 4 l)) (firstAlt (field 4 l)) (old-second (field 3 l) (field 4 l) (line .alts) t .1)
+      (ap basesOf (sym (second-is reference l good one line t)) ∙ h ∙ ap basesOf (first-is reference l good one line))
 
   pub new-alleles : NewAlleles reference l
   new-alleles =

@@ -49,7 +49,8 @@ module _ (reference text : List ℕ) (e : Entry) (st : Stands reference text e) 
   pub form-some : NoneEmpty (formOf reference text e)
   form-some b m = ⊎-elim (λ d. rw d (omega (arith, ref-length))) (alts (eqb (e .alts) 2) (st .second)) (List·Memᴰ·cases-cons m)
     where
-      alts : (t : Bool) → Within text (pick t (e .second) (e .first)) → List·Memᴰ b (pick t (basesOf (bytesOf text (e .first)) ∷ basesOf (bytesOf text (e .second)) ∷ []) (basesOf (bytesOf text (e .first)) ∷ [])) → 1 ≤ length b
+      alts : (t : Bool) → Within text (pick t (e .second) (e .first))
+          → List·Memᴰ b (pick t (basesOf (bytesOf text (e .first)) ∷ basesOf (bytesOf text (e .second)) ∷ []) (basesOf (bytesOf text (e .first)) ∷ [])) → 1 ≤ length b
       alts true w n =
           ⊎-elim (λ d. rw d (some-part (e .first) (st .first)))
           (λ o. ⊎-elim (λ d. rw d (some-part (e .second) w)) (λ z. absurd (List·Memᴰ·not-nil z)) (List·Memᴰ·cases-cons o))
@@ -70,7 +71,8 @@ module _ (reference text : List ℕ) (e : Entry) (st : Stands reference text e) 
   kb = bounds reference text e st k refl
 
   -- What is left of an ALT.
-  left-of : (p : Part) → Within text p → k .shortest ≤ p .len → basesOf (bytesSpelled reference text (record { 0 = n }) (spelled k p)) ≡ between (basesOf reference) (startOf e .0) (k .back) n (basesOf (bytesOf text p))
+  left-of : (p : Part) → Within text p → k .shortest ≤ p .len → basesOf (bytesSpelled reference text (record { 0 = n }) (spelled k p))
+      ≡ between (basesOf reference) (startOf e .0) (k .back) n (basesOf (bytesOf text p))
   left-of p w h =
       spelled-between reference text (startOf e .0) p (k .back) (k .front) n (spelled k p .front) (spelled k p .own .len) (omega arith) w
       (numbers (startOf e .0) (k .shortest) (p .len) (k .back) (k .front) (kb .some) h (kb .back) (kb .front))
@@ -86,7 +88,10 @@ module _ (reference text : List ℕ) (e : Entry) (st : Stands reference text e) 
       ∙ ap (λ (z : ℕ). take z (drop n (basesOf reference))) span
       ∙ cut-on (basesOf reference) f form-on (k .back) n cut .1
 
-  left-of-alts : (t : Bool) → Within text (pick t (e .second) (e .first)) → k .shortest ≤ pick t (e .second) (e .first) .len → pick t (basesOf (bytesSpelled reference text (record { 0 = n }) (spelled k (e .first))) ∷ basesOf (bytesSpelled reference text (record { 0 = n }) (spelled k (pick t (e .second) (e .first)))) ∷ []) (basesOf (bytesSpelled reference text (record { 0 = n }) (spelled k (e .first))) ∷ []) ≡ map (between (basesOf reference) (startOf e .0) (k .back) n) (pick t (basesOf (bytesOf text (e .first)) ∷ basesOf (bytesOf text (e .second)) ∷ []) (basesOf (bytesOf text (e .first)) ∷ []))
+  left-of-alts : (t : Bool) → Within text (pick t (e .second) (e .first)) → k .shortest ≤ pick t (e .second) (e .first) .len
+      → pick t (basesOf (bytesSpelled reference text (record { 0 = n }) (spelled k (e .first))) ∷ basesOf (bytesSpelled reference text (record { 0 = n }) (spelled k (pick t (e .second) (e .first))))
+      ∷ []) (basesOf (bytesSpelled reference text (record { 0 = n }) (spelled k (e .first))) ∷ [])
+      ≡ map (between (basesOf reference) (startOf e .0) (k .back) n) (pick t (basesOf (bytesOf text (e .first)) ∷ basesOf (bytesOf text (e .second)) ∷ []) (basesOf (bytesOf text (e .first)) ∷ []))
   left-of-alts true w h = let a = left-of (e .first) (st .first) (kb .first) in let b = left-of (e .second) w h in cc
   left-of-alts false w h = let a = left-of (e .first) (st .first) (kb .first) in cc
 

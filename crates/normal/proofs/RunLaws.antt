@@ -45,7 +45,8 @@ unfolding run
 run-stop t zero h = absurd (not-suc-le-zero h)
 run-stop t (suc n) h = go (t 0) refl (run-stop (λ j. t (suc j)) n) h
   where
-    go : (b : Bool) → t 0 ≡ b → (run (λ j. t (suc j)) n < n → T (t (suc (run (λ j. t (suc j)) n))) → ⊥) → pick b (suc (run (λ j. t (suc j)) n)) 0 < suc n → T (t (pick b (suc (run (λ j. t (suc j)) n)) 0)) → ⊥
+    go : (b : Bool) → t 0 ≡ b → (run (λ j. t (suc j)) n < n → T (t (suc (run (λ j. t (suc j)) n))) → ⊥) → pick b (suc (run (λ j. t (suc j)) n)) 0 < suc n
+        → T (t (pick b (suc (run (λ j. t (suc j)) n)) 0)) → ⊥
     go true e more h = more (le-of-suc-le-suc h)
     go false e more h = of-false e
 
@@ -58,7 +59,8 @@ run-is t n k h below stop =
 pub shortest-le : (ref : List ℕ) (xs : List (List ℕ)) → Each (λ a. shortest ref xs ≤ length a) (ref ∷ xs)
 unfolding shortest
 shortest-le ref [] a m = ⊎-elim (λ e. rw e (omega arith)) (λ n. absurd (List·Memᴰ·not-nil n)) (List·Memᴰ·cases-cons m)
-shortest-le ref (x ∷ xs) a m = ⊎-elim (λ e. le a (List·Memᴰ·head e) (shortest-le ref xs)) (λ n. ⊎-elim here (λ k. le a (List·Memᴰ·tail k) (shortest-le ref xs)) (List·Memᴰ·cases-cons n)) (List·Memᴰ·cases-cons m)
+shortest-le ref (x ∷ xs) a m =
+    ⊎-elim (λ e. le a (List·Memᴰ·head e) (shortest-le ref xs)) (λ n. ⊎-elim here (λ k. le a (List·Memᴰ·tail k) (shortest-le ref xs)) (List·Memᴰ·cases-cons n)) (List·Memᴰ·cases-cons m)
   where
     here : a ≡ x → min (length x) (shortest ref xs) ≤ length a
     here e = rw e (omega (arith, min-le-left (length x) (shortest ref xs)))

@@ -121,7 +121,9 @@ module _ (reference l : List ℕ) (good : T (allLetters? reference)) (one : With
         let second : T (eqb (altCount (field 4 l)) 2) → basesOf (bytesOf m (entryOf m 0 .second)) ≡ basesOf (newSecond reference l) =
         λ t. let two : T (twoAlts? (field 4 l)) = rw (two-count (field 4 l)) at t in
         ap basesOf (second-is reference m good written-free written (rw two-written two) ∙ ap secondAlt (written-4 reference l good one line) ∙ alt-second two) in
-        same-form same-start ref (ap (λ (n : ℕ). pick (eqb n 2) (basesOf (bytesOf m (entryOf m 0 .first)) ∷ basesOf (bytesOf m (entryOf m 0 .second)) ∷ []) (basesOf (bytesOf m (entryOf m 0 .first)) ∷ [])) (written-count reference l good one line) ∙ alts-same (eqb (altCount (field 4 l)) 2) first second)
+        same-form same-start ref
+        (ap (λ (n : ℕ). pick (eqb n 2) (basesOf (bytesOf m (entryOf m 0 .first)) ∷ basesOf (bytesOf m (entryOf m 0 .second)) ∷ []) (basesOf (bytesOf m (entryOf m 0 .first)) ∷ []))
+        (written-count reference l good one line) ∙ alts-same (eqb (altCount (field 4 l)) 2) first second)
 
     form-again : formSpelled reference m (altCount (field 4 m)) (newOn reference m) ≡ formSpelled reference l (altCount (field 4 l)) (newOn reference l)
     form-again =
@@ -136,7 +138,8 @@ module _ (reference l : List ℕ) (good : T (allLetters? reference)) (one : With
     abbrev two : Bool
     two = eqb (altCount (field 4 l)) 2
 
-    alts-again : pick two (basesOf (newFirst reference m) ∷ basesOf (newSecond reference m) ∷ []) (basesOf (newFirst reference m) ∷ []) ≡ pick two (basesOf (newFirst reference l) ∷ basesOf (newSecond reference l) ∷ []) (basesOf (newFirst reference l) ∷ [])
+    alts-again : pick two (basesOf (newFirst reference m) ∷ basesOf (newSecond reference m) ∷ []) (basesOf (newFirst reference m) ∷ [])
+        ≡ pick two (basesOf (newFirst reference l) ∷ basesOf (newSecond reference l) ∷ []) (basesOf (newFirst reference l) ∷ [])
     alts-again =
         ap (λ (n : ℕ). pick (eqb n 2) (basesOf (newFirst reference m) ∷ basesOf (newSecond reference m) ∷ []) (basesOf (newFirst reference m) ∷ [])) (sym (written-count reference l good one line))
         ∙ ap (λ (f : Form). f .alts) form-again
@@ -154,7 +157,8 @@ module _ (reference l : List ℕ) (good : T (allLetters? reference)) (one : With
     second-again : T (twoAlts? (field 4 l)) → newSecond reference m ≡ newSecond reference l
     second-again t =
         spelled-same (newSecond reference m) (newSecond reference l) (second-letters reference m good written-free written) (second-letters reference l good one line)
-        (alts-second two (basesOf (newFirst reference m)) (basesOf (newSecond reference m)) (basesOf (newFirst reference l)) (basesOf (newSecond reference l)) (rw (two-count (field 4 l)) t) alts-again)
+        (alts-second two (basesOf (newFirst reference m)) (basesOf (newSecond reference m)) (basesOf (newFirst reference l)) (basesOf (newSecond reference l)) (rw (two-count (field 4 l)) t)
+        alts-again)
 
     alt-again : newAlt reference m ≡ newAlt reference l
     alt-again =

@@ -56,7 +56,8 @@ module _ (t : List ℕ) (a : ℕ) (l : List ℕ) (there : take (length l) (drop 
 
       second : (u : Bool) → Within l (pick u (entryOf l 0 .second) (entryOf l 0 .first)) → T u → basesOf (bytesOf t (entryOf l a .second)) ≡ basesOf (bytesOf l (entryOf l 0 .second))
       second true w v =
-          ap basesOf (bytes-in (fieldAt 4 l + until COMMA (field 4 l) + 1) (entryOf l a .second .at) (entryOf l 0 .second .at) (entryOf l 0 .second .len) (omega arith) (omega arith) (omega (arith, w .1)))
+          ap basesOf (bytes-in (fieldAt 4 l + until COMMA (field 4 l) + 1) (entryOf l a .second .at) (entryOf l 0 .second .at) (entryOf l 0 .second .len) (omega arith) (omega arith)
+          (omega (arith, w .1)))
       second false w v = absurd v
 
 module _ (reference : List ℕ) where

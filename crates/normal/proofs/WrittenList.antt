@@ -125,7 +125,8 @@ module _ (reference name : List ℕ) (ok : T (isReference? reference)) where
     all-wrote = written-all reference Wrote Read wrote [] rs tt all-read
 
     wrote-clear : Records reference name 0 noPos ws
-    wrote-clear = wrote-records 0 noPos ws all-wrote (written-ordered reference [] rs tt) (omega (arith, ap length record-lines, accepted-few-lines reference name t accepted, written-count reference [] rs))
+    wrote-clear = wrote-records 0 noPos ws all-wrote (written-ordered reference [] rs tt)
+        (omega (arith, ap length record-lines, accepted-few-lines reference name t accepted, written-count reference [] rs))
 
     pub text-written : writtenText reference t ≡ textOf (hs ++ ws)
     unfolding writtenText

@@ -1,5 +1,5 @@
--- The normal form in closed form: how many bases are cut off the end of every allele, where bases of the reference that stand before the span are taken
--- in as they are needed, and then how many off the front.
+-- The normal form in closed form: how many bases are cut off the end of every allele, where bases of the reference that stand before the
+-- span are taken in as they are needed, and then how many off the front.
 -- Assumes nothing: these are definitions.
 use mathlib.Core.Bool.{Bool, true, _&&_}
 use mathlib.Core.List.{List, [], _∷_, _++_, map}
@@ -40,7 +40,8 @@ frontAlike? f k = all? (λ a. eqb (getD a k 0) (getD (f .ref) k 0)) (f .alts)
 abbrev pub cutOf : List ℕ → Form → ℕ
 cutOf r f = run (backAlike? r f) (f .start .0 + shortest (f .ref) (f .alts) - 1)
 
--- How many bases are cut off the front of every allele, where q have been cut off the end: while all begin alike and the shortest keeps one.
+-- How many bases are cut off the front of every allele, where q have been cut off the end: while all begin alike and the shortest keeps
+-- one.
 abbrev pub trimOf : Form → ℕ → ℕ
 trimOf f q = run (frontAlike? f) (shortest (f .ref) (f .alts) - (q + 1))
 

@@ -51,8 +51,8 @@ AllEndAlike f = Each (λ a. last a ≡ last (f .ref)) (f .alts)
 abbrev pub AllBeginAlike : Form → Type 0
 AllBeginAlike f = Each (λ a. first a ≡ first (f .ref)) (f .alts)
 
--- A form is normal when none is empty and both hold: they do not all end in the same base, except where POS is 1 and one of them has length 1;
--- they do not all begin with the same base while all have length 2 or more.
+-- A form is normal when none is empty and both hold: they do not all end in the same base, except where POS is 1 and one of them has length
+-- 1; they do not all begin with the same base while all have length 2 or more.
 pub record Normal (f : Form) : Type 0 where
   pub some : NoneEmpty f
   pub ends : AllEndAlike f → (posOf (f .start) .0 ≡ 1) × One (λ a. length a ≡ 1) (alleles f)
@@ -66,8 +66,8 @@ donor r f a = take (f .start .0) r ++ a ++ drop (spanEnd f) r
 abbrev pub SameDonors : List ℕ → Form → Form → Type 0
 SameDonors r f g = map (donor r f) (f .alts) ≡ map (donor r g) (g .alts)
 
--- The normal form of an entry f is the normal entry g with the same ALT count such that, for each ALT alone, the donor over the whole reference is
--- the same.
+-- The normal form of an entry f is the normal entry g with the same ALT count such that, for each ALT alone, the donor over the whole
+-- reference is the same.
 pub record NormalForm (r : List ℕ) (f g : Form) : Type 0 where
   pub on : OnReference r g
   pub normal : Normal g

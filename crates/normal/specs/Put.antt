@@ -25,4 +25,5 @@ frontWith l pos =
 -- A line from its REF on, with the REF and so many ALTs of a normal form, and its LF.
 abbrev pub backWith : List ℕ → List ℕ → ℕ → NormalEntry → List ℕ
 backWith reference l alts n =
-    bytesOf reference (part (n .start .0) (n .span)) ++ (TAB ∷ []) ++ altsSpelled reference l alts n ++ drop (fieldEnd l (fieldAt 4 l)) l ++ (LF ∷ [])
+    bytesOf reference (part (n .start .0) (n .span)) ++ (TAB ∷ []) ++ altsSpelled reference l alts n ++ drop (fieldEnd l (fieldAt 4 l)) l
+    ++ (LF ∷ [])

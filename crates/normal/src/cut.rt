@@ -1,5 +1,5 @@
-// How much of an entry's alleles all have in common, and so is cut off: the loops of Tan and others, with nothing copied. REF and two ALTs; where
-// there is one ALT it stands for both, which changes no test.
+// How much of an entry's alleles all have in common, and so is cut off: the loops of Tan and others, with nothing copied. REF and two ALTs;
+// where there is one ALT it stands for both, which changes no test.
 ghost use mathlib.Core.Path.{_≡_};
 ghost use Prim.Native.Nat.{_+_, _≤_, _<_, min};
 ghost use lib.ListN.{length};
@@ -18,7 +18,10 @@ pub struct Cuts {
 
 // The base k before the last of an allele that stands behind the first `start` bases of the reference.
 fn back_at(reference: &[u8], start: Place, allele: &[u8], k: usize) -> u8
-    requires { ⌜ (start .0 ≤ length (now reference)) × (k < start .0 + length (now allele)) ⌝ }
+    requires { ⌜
+        (start .0 ≤ length (now reference))
+        × (k < start .0 + length (now allele))
+        ⌝ }
     ensures { λ r. ⌜ r ≡ backAt (basesOf (now (reference .entry))) (start .0) k (basesOf (now (allele .entry))) ⌝ }
 {
     let len = allele.len();
@@ -31,8 +34,16 @@ fn back_at(reference: &[u8], start: Place, allele: &[u8], k: usize) -> u8
 
 // How many last bases all alleles have in common, at most `most`, with the first `start` bases of the reference before each.
 fn cut_back(reference: &[u8], start: Place, a: &[u8], b: &[u8], c: &[u8], most: usize) -> usize
-    requires { ⌜ (start .0 ≤ length (now reference)) × (most < start .0 + length (now a)) × (most < start .0 + length (now b)) × (most < start .0 + length (now c)) ⌝ }
-    ensures { λ r. ⌜ r ≡ run (backAlike? (basesOf (now (reference .entry))) (three start (basesOf (now (a .entry))) (basesOf (now (b .entry))) (basesOf (now (c .entry))))) most ⌝ }
+    requires { ⌜
+        (start .0 ≤ length (now reference))
+        × (most < start .0 + length (now a))
+        × (most < start .0 + length (now b))
+        × (most < start .0 + length (now c))
+        ⌝ }
+    ensures { λ r. ⌜
+        r ≡ run (backAlike? (basesOf (now (reference .entry)))
+        (three start (basesOf (now (a .entry))) (basesOf (now (b .entry))) (basesOf (now (c .entry))))) most
+        ⌝ }
 {
     let mut q: usize = 0;
     while q < most {
@@ -50,8 +61,15 @@ fn cut_back(reference: &[u8], start: Place, a: &[u8], b: &[u8], c: &[u8], most: 
 
 // How many first bases all alleles have in common, at most `most`.
 fn cut_front(a: &[u8], b: &[u8], c: &[u8], most: usize) -> usize
-    requires { ⌜ (most < length (now a)) × (most < length (now b)) × (most < length (now c)) ⌝ }
-    ensures { λ r. ⌜ r ≡ run (frontAlike? (three (record { 0 = 0 }) (basesOf (now (a .entry))) (basesOf (now (b .entry))) (basesOf (now (c .entry))))) most ⌝ }
+    requires { ⌜
+        (most < length (now a))
+        × (most < length (now b))
+        × (most < length (now c))
+        ⌝ }
+    ensures { λ r. ⌜
+        r ≡ run (frontAlike? (three (record { 0 = 0 }) (basesOf (now (a .entry))) (basesOf (now (b .entry))) (basesOf (now (c .entry)))))
+        most
+        ⌝ }
 {
     let mut t: usize = 0;
     while t < most {
@@ -76,8 +94,16 @@ fn shorter(a: usize, b: usize) -> usize
 
 // What is cut off the alleles a (REF, at `start` on the reference), b and c, none of them empty.
 pub fn cuts_of(reference: &[u8], start: Place, a: &[u8], b: &[u8], c: &[u8]) -> Cuts
-    requires { ⌜ (start .0 + length (now a) ≤ length (now reference)) × (1 ≤ length (now a)) × (1 ≤ length (now b)) × (1 ≤ length (now c)) ⌝ }
-    ensures { λ r. ⌜ r ≡ cutsOf (basesOf (now (reference .entry))) (three start (basesOf (now (a .entry))) (basesOf (now (b .entry))) (basesOf (now (c .entry)))) ⌝ }
+    requires { ⌜
+        (start .0 + length (now a) ≤ length (now reference))
+        × (1 ≤ length (now a))
+        × (1 ≤ length (now b))
+        × (1 ≤ length (now c))
+        ⌝ }
+    ensures { λ r. ⌜
+        r ≡ cutsOf (basesOf (now (reference .entry)))
+        (three start (basesOf (now (a .entry))) (basesOf (now (b .entry))) (basesOf (now (c .entry))))
+        ⌝ }
 {
     let shortest = shorter(b.len(), shorter(c.len(), a.len()));
     let back = cut_back(reference, start, a, b, c, start.0 + shortest - 1);

@@ -40,7 +40,12 @@ fn taken_in(cuts: Cuts) -> usize
 
 // What is left of an ALT.
 fn spelled_part(cuts: Cuts, part: Part) -> Spelled
-    requires { ⌜ (1 ≤ cuts .shortest) × (cuts .shortest ≤ part .len) × (cuts .front ≤ cuts .shortest - (cuts .back + 1)) × (part .at + part .len < 2 ^ 64) ⌝ }
+    requires { ⌜
+        (1 ≤ cuts .shortest)
+        × (cuts .shortest ≤ part .len)
+        × (cuts .front ≤ cuts .shortest - (cuts .back + 1))
+        × (part .at + part .len < 2 ^ 64)
+        ⌝ }
     ensures { λ r. ⌜ r ≡ spelled cuts part ⌝ }
 {
     if part.len <= cuts.back {
@@ -84,7 +89,10 @@ fn last_alt(entry: Entry) -> Part
 
 // What is cut off the alleles of an entry that starts at `start`.
 fn entry_cuts(reference: &[u8], text: &[u8], entry: Entry, start: Place) -> Cuts
-    requires { ⌜ Stands (now reference) (now text) entry × (start ≡ startOf entry) ⌝ }
+    requires { ⌜
+        Stands (now reference) (now text) entry
+        × (start ≡ startOf entry)
+        ⌝ }
     ensures { λ r. ⌜ r ≡ cutsOf (basesOf (now (reference .entry))) (formOf (now (reference .entry)) (now (text .entry)) entry) ⌝ }
 {
     let ref_part = entry.reference;

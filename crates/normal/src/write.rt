@@ -34,8 +34,14 @@ fn put_spelled(
     out: &mut [u8],
     at: usize,
 ) -> usize
-    requires { ⌜ OnBoth (now reference) (now line) start allele × (at + length (bytesSpelled (now reference) (now line) start allele) ≤ length (now out)) ⌝ }
-    ensures { λ r. ⌜ (r ≡ at + length (bytesSpelled (now (reference .entry)) (now (line .entry)) start allele)) × (now (out .exit) ≡ put (now (out .entry)) at (bytesSpelled (now (reference .entry)) (now (line .entry)) start allele)) ⌝ }
+    requires { ⌜
+        OnBoth (now reference) (now line) start allele
+        × (at + length (bytesSpelled (now reference) (now line) start allele) ≤ length (now out))
+        ⌝ }
+    ensures { λ r. ⌜
+        (r ≡ at + length (bytesSpelled (now (reference .entry)) (now (line .entry)) start allele))
+        × (now (out .exit) ≡ put (now (out .entry)) at (bytesSpelled (now (reference .entry)) (now (line .entry)) start allele))
+        ⌝ }
 {
     let begin = start.0;
     let end = begin + allele.front;
@@ -55,8 +61,15 @@ pub fn put_alts(
     out: &mut [u8],
     at: usize,
 ) -> usize
-    requires { ⌜ OnBoth (now reference) (now line) (normal .start) (normal .first) × OnBoth (now reference) (now line) (normal .start) (normal .second) × (at + length (altsSpelled (now reference) (now line) alts normal) ≤ length (now out)) ⌝ }
-    ensures { λ r. ⌜ (r ≡ at + length (altsSpelled (now (reference .entry)) (now (line .entry)) alts normal)) × (now (out .exit) ≡ put (now (out .entry)) at (altsSpelled (now (reference .entry)) (now (line .entry)) alts normal)) ⌝ }
+    requires { ⌜
+        OnBoth (now reference) (now line) (normal .start) (normal .first)
+        × OnBoth (now reference) (now line) (normal .start) (normal .second)
+        × (at + length (altsSpelled (now reference) (now line) alts normal) ≤ length (now out))
+        ⌝ }
+    ensures { λ r. ⌜
+        (r ≡ at + length (altsSpelled (now (reference .entry)) (now (line .entry)) alts normal))
+        × (now (out .exit) ≡ put (now (out .entry)) at (altsSpelled (now (reference .entry)) (now (line .entry)) alts normal))
+        ⌝ }
 {
     let start = normal.start;
     if alts != 2 {
@@ -69,8 +82,15 @@ pub fn put_alts(
 
 // Writes a line of ten fields up to its REF, with another POS.
 pub fn put_front(line: &[u8], pos: Pos, out: &mut [u8], at: usize) -> usize
-    requires { ⌜ T (tenFields? (now line)) × (pos .0 ≤ largestPos) × (at + length (frontWith (now line) pos) ≤ length (now out)) ⌝ }
-    ensures { λ r. ⌜ (r ≡ at + length (frontWith (now (line .entry)) pos)) × (now (out .exit) ≡ put (now (out .entry)) at (frontWith (now (line .entry)) pos)) ⌝ }
+    requires { ⌜
+        T (tenFields? (now line))
+        × (pos .0 ≤ largestPos)
+        × (at + length (frontWith (now line) pos) ≤ length (now out))
+        ⌝ }
+    ensures { λ r. ⌜
+        (r ≡ at + length (frontWith (now (line .entry)) pos))
+        × (now (out .exit) ≡ put (now (out .entry)) at (frontWith (now (line .entry)) pos))
+        ⌝ }
 {
     let fields = fields_of(line);
     let pos_at = fields.pos;
@@ -90,8 +110,17 @@ pub fn put_back(
     out: &mut [u8],
     at: usize,
 ) -> usize
-    requires { ⌜ T (tenFields? (now line)) × (normal .start .0 + normal .span ≤ length (now reference)) × OnBoth (now reference) (now line) (normal .start) (normal .first) × OnBoth (now reference) (now line) (normal .start) (normal .second) × (at + length (backWith (now reference) (now line) alts normal) ≤ length (now out)) ⌝ }
-    ensures { λ r. ⌜ (r ≡ at + length (backWith (now (reference .entry)) (now (line .entry)) alts normal)) × (now (out .exit) ≡ put (now (out .entry)) at (backWith (now (reference .entry)) (now (line .entry)) alts normal)) ⌝ }
+    requires { ⌜
+        T (tenFields? (now line))
+        × (normal .start .0 + normal .span ≤ length (now reference))
+        × OnBoth (now reference) (now line) (normal .start) (normal .first)
+        × OnBoth (now reference) (now line) (normal .start) (normal .second)
+        × (at + length (backWith (now reference) (now line) alts normal) ≤ length (now out))
+        ⌝ }
+    ensures { λ r. ⌜
+        (r ≡ at + length (backWith (now (reference .entry)) (now (line .entry)) alts normal))
+        × (now (out .exit) ≡ put (now (out .entry)) at (backWith (now (reference .entry)) (now (line .entry)) alts normal))
+        ⌝ }
 {
     let fields = fields_of(line);
     let alt_at = fields.alt;
@@ -115,8 +144,20 @@ pub fn put_line(
     out: &mut [u8],
     at: usize,
 ) -> usize
-    requires { ⌜ T (tenFields? (now line)) × (posOf (normal .start) .0 ≤ largestPos) × (normal .start .0 + normal .span ≤ length (now reference)) × OnBoth (now reference) (now line) (normal .start) (normal .first) × OnBoth (now reference) (now line) (normal .start) (normal .second) × (at + length (frontWith (now line) (posOf (normal .start)) ++ backWith (now reference) (now line) alts normal) ≤ length (now out)) ⌝ }
-    ensures { λ r. ⌜ (r ≡ at + length (frontWith (now (line .entry)) (posOf (normal .start)) ++ backWith (now (reference .entry)) (now (line .entry)) alts normal)) × (now (out .exit) ≡ put (now (out .entry)) at (frontWith (now (line .entry)) (posOf (normal .start)) ++ backWith (now (reference .entry)) (now (line .entry)) alts normal)) ⌝ }
+    requires { ⌜
+        T (tenFields? (now line))
+        × (posOf (normal .start) .0 ≤ largestPos)
+        × (normal .start .0 + normal .span ≤ length (now reference))
+        × OnBoth (now reference) (now line) (normal .start) (normal .first)
+        × OnBoth (now reference) (now line) (normal .start) (normal .second)
+        × (at + length (frontWith (now line) (posOf (normal .start)) ++ backWith (now reference) (now line) alts normal) ≤ length (now out))
+        ⌝ }
+    ensures { λ r. ⌜
+        (r ≡ at + length (frontWith (now (line .entry)) (posOf (normal .start))
+        ++ backWith (now (reference .entry)) (now (line .entry)) alts normal))
+        × (now (out .exit) ≡ put (now (out .entry))
+        at (frontWith (now (line .entry)) (posOf (normal .start)) ++ backWith (now (reference .entry)) (now (line .entry)) alts normal))
+        ⌝ }
 {
     let start = normal.start;
     let next = put_front(line, pos_of(start), out, at);

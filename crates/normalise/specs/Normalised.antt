@@ -1,5 +1,5 @@
--- What normalise prints for the bytes of its two files: reference.txt (bases, then one LF) and first.vcf, name `chr1`. Document 01: a file that can't be
--- read counts as empty; a reference file that does not end in LF is refused with 1.
+-- What normalise prints for the bytes of its two files: reference.txt (bases, then one LF) and first.vcf, name `chr1`. Document 01: a file
+-- that can't be read counts as empty; a reference file that does not end in LF is refused with 1.
 -- Assumes nothing: these are definitions.
 use mathlib.Core.Bool.{false}
 use mathlib.Core.List.{List, _∷_}

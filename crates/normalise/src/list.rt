@@ -9,11 +9,17 @@ use card::normal_text::normal;
 use files::file::ends_in_lf;
 use lines::refused::refused_text;
 
-// Writes what is printed for a reference file and a list at the start of the room, and says how many bytes that is. The room is not below the list's
-// length.
+// Writes what is printed for a reference file and a list at the start of the room, and says how many bytes that is. The room is not below
+// the list's length.
 pub fn normalise_text(file: &[u8], text: &[u8], out: &mut [u8]) -> usize
-    requires { ⌜ (length (now text) ≤ length (now out)) × (refusedMost ≤ length (now out)) ⌝ }
-    ensures { λ r. ⌜ (r ≡ length (normalisedText (now (file .entry)) (now (text .entry)))) × (now (out .exit) ≡ put (now (out .entry)) 0 (normalisedText (now (file .entry)) (now (text .entry)))) ⌝ }
+    requires { ⌜
+        (length (now text) ≤ length (now out))
+        × (refusedMost ≤ length (now out))
+        ⌝ }
+    ensures { λ r. ⌜
+        (r ≡ length (normalisedText (now (file .entry)) (now (text .entry))))
+        × (now (out .exit) ≡ put (now (out .entry)) 0 (normalisedText (now (file .entry)) (now (text .entry))))
+        ⌝ }
 {
     if !ends_in_lf(file) {
         return refused_text(1, 0, 0, out);

@@ -1,4 +1,5 @@
-// The program normalise: reads reference.txt and first.vcf, and writes the list in normal form, or the line of its refusal. The contracts cite specs/.
+// The program normalise: reads reference.txt and first.vcf, and writes the list in normal form, or the line of its refusal. The contracts
+// cite specs/.
 mod list;
 
 use files::file::FILE_ROOM;

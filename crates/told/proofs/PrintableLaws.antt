@@ -99,4 +99,7 @@ module _ (file reference name first : List ℕ) (small : Bool) where
 
   pub lists-printable : (second : List ℕ) → Printable (firstRefusal (fileCheck file ∷ listsChecks reference name first second small))
   lists-printable second =
-      first-printable _ (by-number 1 (omega arith), (by-number 1 (omega arith), (by-number 2 (omega arith), (by-list 1 reference name first (omega arith), (by-list 2 reference name second (omega arith), tt)))))
+      first-printable _ (
+        by-number 1 (omega arith),
+        (by-number 1 (omega arith), (by-number 2 (omega arith), (by-list 1 reference name first (omega arith), (by-list 2 reference name second (omega arith), tt)))),
+      )

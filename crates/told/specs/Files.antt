@@ -1,5 +1,5 @@
--- The bytes of a run's three files: reference.txt (bases, then one LF), first.vcf and second.vcf, name `chr1`. Why they are refused, and what marking
--- their lists answers and leaves.
+-- The bytes of a run's three files: reference.txt (bases, then one LF), first.vcf and second.vcf, name `chr1`. Why they are refused, and
+-- what marking their lists answers and leaves.
 -- Assumes nothing: these are definitions.
 use mathlib.Core.Bool.{false}
 use mathlib.Core.List.{List, _∷_}

@@ -1,5 +1,5 @@
--- What a program tells of its files: its text, or the line of a refusal. Document 01: on refusal the only line is `refused`, number, list, line; a
--- reference file that does not end in LF is refused with 1.
+-- What a program tells of its files: its text, or the line of a refusal. Document 01: on refusal the only line is `refused`, number, list,
+-- line; a reference file that does not end in LF is refused with 1.
 -- Assumes nothing: these are definitions.
 use mathlib.Core.Bool.{not}
 use mathlib.Core.List.{List}

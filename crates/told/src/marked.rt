@@ -10,7 +10,11 @@ use files::file::ends_in_lf;
 
 // Marks two lists on the bases of a reference file, as `marked_lists` does; a file that does not end in LF is refused with 1.
 pub fn mark_files(file: &[u8], first: &[u8], second: &[u8], marks: &mut [u8]) -> MarkedLists
-    ensures { λ r. ⌜ (r .answer ≡ filesAnswered (now (file .entry)) (now (first .entry)) (now (second .entry)) (now (marks .entry))) × (r .plan ≡ filesPlan (now (file .entry)) (now (first .entry)) (now (second .entry)) (now (marks .entry))) × (now (marks .exit) ≡ filesMarks (now (file .entry)) (now (first .entry)) (now (second .entry)) (now (marks .entry))) ⌝ }
+    ensures { λ r. ⌜
+        (r .answer ≡ filesAnswered (now (file .entry)) (now (first .entry)) (now (second .entry)) (now (marks .entry)))
+        × (r .plan ≡ filesPlan (now (file .entry)) (now (first .entry)) (now (second .entry)) (now (marks .entry)))
+        × (now (marks .exit) ≡ filesMarks (now (file .entry)) (now (first .entry)) (now (second .entry)) (now (marks .entry)))
+        ⌝ }
 {
     if !ends_in_lf(file) {
         let answer = AllMarked {

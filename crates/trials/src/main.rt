@@ -1,4 +1,5 @@
-// Searches a cluster of twelve entries, no two of which overlap, on a stretch of 60 bases, and prints the best score. bench/search counts what that costs.
+// Searches a cluster of twelve entries, no two of which overlap, on a stretch of 60 bases, and prints the best score. bench/search counts
+// what that costs.
 use libc::STDOUT_FILENO;
 
 fn main() {

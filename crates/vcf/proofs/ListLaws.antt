@@ -74,11 +74,13 @@ module _ (reference name : List ℕ) where
   pub rows-above : (s : Stage) (n : ℕ) (l : List ℕ) → s .below ≡ false → lineRows reference name s n l ≡ row 4 (tooLong? l) ∷ row 5 (headerWrong? n l) ∷ []
   rows-above s n l e = rw e
 
-  pub judge-stop : (s : Stage) (n : ℕ) (l : List ℕ) (ls : List (List ℕ)) → (firstRow (lineRows reference name s n l) ≡ 0 → ⊥) → judgeLines reference name s n (l ∷ ls) ≡ fault (firstRow (lineRows reference name s n l)) n
+  pub judge-stop : (s : Stage) (n : ℕ) (l : List ℕ) (ls : List (List ℕ)) → (firstRow (lineRows reference name s n l) ≡ 0 → ⊥) → judgeLines reference name s n (l ∷ ls)
+      ≡ fault (firstRow (lineRows reference name s n l)) n
   unfolding judgeLines
   judge-stop s n l ls h = rw (ne-eqb _ _ h)
 
-  pub judge-more : (s : Stage) (n : ℕ) (l : List ℕ) (ls : List (List ℕ)) → firstRow (lineRows reference name s n l) ≡ 0 → judgeLines reference name s n (l ∷ ls) ≡ judgeLines reference name (nextStage s l) (n + 1) ls
+  pub judge-more : (s : Stage) (n : ℕ) (l : List ℕ) (ls : List (List ℕ)) → firstRow (lineRows reference name s n l) ≡ 0 → judgeLines reference name s n (l ∷ ls)
+      ≡ judgeLines reference name (nextStage s l) (n + 1) ls
   unfolding judgeLines
   judge-more s n l ls h = rw (eq-eqb _ _ h)
 

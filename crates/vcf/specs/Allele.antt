@@ -1,5 +1,5 @@
--- REF and ALT. REF: 1 to 64 of A, C, G, T, N. ALT: one allele, or two with a comma between; each is 1 to 64 of A, C, G, T, N, differs from REF,
--- and the two differ. The second is everything behind the first comma.
+-- REF and ALT. REF: 1 to 64 of A, C, G, T, N. ALT: one allele, or two with a comma between; each is 1 to 64 of A, C, G, T, N, differs from
+-- REF, and the two differ. The second is everything behind the first comma.
 -- Assumes nothing: these are definitions.
 use mathlib.Core.Bool.{Bool, not, _&&_, _||_}
 use mathlib.Core.List.{List}

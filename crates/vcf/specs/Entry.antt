@@ -1,5 +1,5 @@
--- The entries of a list. An entry is its POS, REF, ALTs and the ordered pair of copy alleles that the genotype's digits name; REF and ALTs are
--- parts of the list's text.
+-- The entries of a list. An entry is its POS, REF, ALTs and the ordered pair of copy alleles that the genotype's digits name; REF and ALTs
+-- are parts of the list's text.
 -- Assumes nothing: these are definitions.
 use mathlib.Core.Bool.{Bool, true, not, _&&_}
 use mathlib.Core.List.{List, [], _∷_}

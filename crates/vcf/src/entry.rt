@@ -24,8 +24,8 @@ pub struct Part {
     pub len: usize,
 }
 
-// An entry: POS, REF and the ALTs as parts of the list's text (`second` is empty where there is one ALT), the number of ALTs, and the alleles
-// of the two copies.
+// An entry: POS, REF and the ALTs as parts of the list's text (`second` is empty where there is one ALT), the number of ALTs, and the
+// alleles of the two copies.
 pub struct Entry {
     pub pos: Pos,
     pub reference: Part,
@@ -78,7 +78,10 @@ pub fn record_at(text: &[u8], i: usize) -> usize
 
 // The second ALT of a field of `len` bytes that begins at `at` in its text, where the first ends at `end` in the field.
 fn second_part(at: usize, end: usize, len: usize) -> Part
-    requires { ⌜ (end ≤ len) × (at + len + 1 < 2 ^ 64) ⌝ }
+    requires { ⌜
+        (end ≤ len)
+        × (at + len + 1 < 2 ^ 64)
+        ⌝ }
     ensures { λ r. ⌜ r ≡ part (at + end + 1) (len - (end + 1)) ⌝ }
 {
     if end < len {
@@ -96,7 +99,10 @@ fn second_part(at: usize, end: usize, len: usize) -> Part
 
 // The entry on a record's line that begins at `at` in its text.
 fn entry_on(line: &[u8], at: usize) -> Entry
-    requires { ⌜ T (readable? (now line)) × (at + length (now line) + 1 < 2 ^ 64) ⌝ }
+    requires { ⌜
+        T (readable? (now line))
+        × (at + length (now line) + 1 < 2 ^ 64)
+        ⌝ }
     ensures { λ r. ⌜ r ≡ entryOf (now (line .entry)) at ⌝ }
 {
     let fields = fields_of(line);
@@ -128,7 +134,10 @@ fn entry_on(line: &[u8], at: usize) -> Entry
 
 // The entry on the line that begins at `at`.
 pub fn entry_at(text: &[u8], at: usize) -> Entry
-    requires { ⌜ (at < length (now text)) × T (readableFrom? (now text) at) ⌝ }
+    requires { ⌜
+        (at < length (now text))
+        × T (readableFrom? (now text) at)
+        ⌝ }
     ensures { λ r. ⌜ r ≡ entryOf (lineAt (now (text .entry)) at) at ⌝ }
 {
     let end = find(text, at, LF);
@@ -137,7 +146,10 @@ pub fn entry_at(text: &[u8], at: usize) -> Entry
 
 // POS of the record whose line begins at `at`. No more of the line is looked at.
 pub fn pos_at(text: &[u8], at: usize) -> Pos
-    requires { ⌜ (at < length (now text)) × T (readableFrom? (now text) at) ⌝ }
+    requires { ⌜
+        (at < length (now text))
+        × T (readableFrom? (now text) at)
+        ⌝ }
     ensures { λ r. ⌜ r ≡ posOn (lineAt (now (text .entry)) at) ⌝ }
 {
     let from = find(text, at, TAB) + 1;

@@ -12,7 +12,10 @@ pub const FIELD_COUNT: usize = 10;
 
 // Where the field `count` fields behind the one at `from` begins.
 pub fn skip_fields(line: &[u8], from: usize, count: usize) -> usize
-    requires { ⌜ (from ≤ length (now line)) × (count ≤ 10) ⌝ }
+    requires { ⌜
+        (from ≤ length (now line))
+        × (count ≤ 10)
+        ⌝ }
     ensures { λ r. ⌜ r ≡ skip count (now (line .entry)) from ⌝ }
 {
     let mut at = from;

@@ -64,7 +64,10 @@ fn line_fault(reference: &[u8], name: &[u8], stage: Stage, n: usize, line: &[u8]
 
 // Where a line leads. Below the column line it is a line of ten fields.
 fn next_stage(stage: Stage, line: &[u8]) -> Stage
-    requires { ⌜ (stage .below ≡ true → T (tenFields? (now line))) × (stage .records + 1 < 2 ^ 64) ⌝ }
+    requires { ⌜
+        (stage .below ≡ true → T (tenFields? (now line)))
+        × (stage .records + 1 < 2 ^ 64)
+        ⌝ }
     ensures { λ r. ⌜ r ≡ nextStage stage (now (line .entry)) ⌝ }
 {
     if stage.below {

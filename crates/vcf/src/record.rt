@@ -4,7 +4,8 @@ ghost use mathlib.Core.Path.{_≡_};
 ghost use Prim.Native.Nat.{_≤_};
 ghost use lib.Dec.{T};
 ghost use Rattle.vcf.specs.Field.{field, tenFields?, fieldsOf};
-ghost use Rattle.vcf.specs.Record.{tooLong?, chromWrong?, posOn, refWrong?, altWrong?, genotypeWrong?, noAlt?, offReference?, fieldRows, recordRows};
+ghost use Rattle.vcf.specs.Record.{tooLong?, chromWrong?, posOn, refWrong?, altWrong?, genotypeWrong?, noAlt?, offReference?};
+ghost use Rattle.vcf.specs.Record.{fieldRows, recordRows};
 ghost use Rattle.vcf.specs.Row.{firstRow};
 use crate::allele::alt_count;
 use crate::allele::alts_wrong;
@@ -45,7 +46,10 @@ fn chrom_wrong(name: &[u8], line: &[u8]) -> bool
 
 // POS; none where row 8 holds.
 pub fn pos_on(line: &[u8], fields: Fields) -> Pos
-    requires { ⌜ T (tenFields? (now line)) × (fields ≡ fieldsOf (now line)) ⌝ }
+    requires { ⌜
+        T (tenFields? (now line))
+        × (fields ≡ fieldsOf (now line))
+        ⌝ }
     ensures { λ r. ⌜ r ≡ posOn (now (line .entry)) ⌝ }
 {
     let at = fields.pos;
@@ -54,7 +58,10 @@ pub fn pos_on(line: &[u8], fields: Fields) -> Pos
 
 // Row 9: is REF no allele?
 fn ref_wrong(line: &[u8], fields: Fields) -> bool
-    requires { ⌜ T (tenFields? (now line)) × (fields ≡ fieldsOf (now line)) ⌝ }
+    requires { ⌜
+        T (tenFields? (now line))
+        × (fields ≡ fieldsOf (now line))
+        ⌝ }
     ensures { λ r. ⌜ r ≡ refWrong? (now (line .entry)) ⌝ }
 {
     let at = fields.reference;
@@ -63,7 +70,10 @@ fn ref_wrong(line: &[u8], fields: Fields) -> bool
 
 // Row 10: is ALT wrong?
 fn alt_wrong(line: &[u8], fields: Fields) -> bool
-    requires { ⌜ T (tenFields? (now line)) × (fields ≡ fieldsOf (now line)) ⌝ }
+    requires { ⌜
+        T (tenFields? (now line))
+        × (fields ≡ fieldsOf (now line))
+        ⌝ }
     ensures { λ r. ⌜ r ≡ altWrong? (now (line .entry)) ⌝ }
 {
     let ref_at = fields.reference;
@@ -73,7 +83,10 @@ fn alt_wrong(line: &[u8], fields: Fields) -> bool
 
 // Row 11: is FORMAT or the genotype wrong?
 fn genotype_wrong(line: &[u8], fields: Fields) -> bool
-    requires { ⌜ T (tenFields? (now line)) × (fields ≡ fieldsOf (now line)) ⌝ }
+    requires { ⌜
+        T (tenFields? (now line))
+        × (fields ≡ fieldsOf (now line))
+        ⌝ }
     ensures { λ r. ⌜ r ≡ genotypeWrong? (now (line .entry)) ⌝ }
 {
     let format_at = fields.format;
@@ -88,7 +101,11 @@ fn genotype_wrong(line: &[u8], fields: Fields) -> bool
 
 // Row 12: is the genotype 0/0? The line's genotype is not wrong.
 fn has_no_alt(line: &[u8], fields: Fields) -> bool
-    requires { ⌜ T (tenFields? (now line)) × (fields ≡ fieldsOf (now line)) × (genotypeWrong? (now line) ≡ false) ⌝ }
+    requires { ⌜
+        T (tenFields? (now line))
+        × (fields ≡ fieldsOf (now line))
+        × (genotypeWrong? (now line) ≡ false)
+        ⌝ }
     ensures { λ r. ⌜ r ≡ noAlt? (now (line .entry)) ⌝ }
 {
     let at = fields.sample;
@@ -98,7 +115,11 @@ fn has_no_alt(line: &[u8], fields: Fields) -> bool
 
 // Row 13: does REF at this POS run past the reference or differ from it?
 fn is_off_reference(reference: &[u8], pos: Pos, line: &[u8], fields: Fields) -> bool
-    requires { ⌜ T (tenFields? (now line)) × (fields ≡ fieldsOf (now line)) × (1 ≤ pos .0) ⌝ }
+    requires { ⌜
+        T (tenFields? (now line))
+        × (fields ≡ fieldsOf (now line))
+        × (1 ≤ pos .0)
+        ⌝ }
     ensures { λ r. ⌜ r ≡ offReference? (now (reference .entry)) pos (field 3 (now (line .entry))) ⌝ }
 {
     let at = fields.reference;

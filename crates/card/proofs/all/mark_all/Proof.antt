@@ -23,7 +23,8 @@ use contract.Lifetimes.{Lfts, Shares, toks}
 use contract.Monad.{Fun, factI}
 use contract.Running.{givenOf, tables, tablesOf}
 use types.Kit.{Given, Item, ‵, raw, _⊛_, runs, atRet, Sq, _$_, _∵_, !, qed, by, move, keep, use1, split}
-use types.Run.{look, init, stop, hop, fld, from, load, addr, lit, of-opd, bin, un, and-then, no-more, assigns, land, first, skips, branches, returns, returns-within, enter, alloc1, alloc0, params1, pass1, pass0, exec}
+use types.Run.{look, init, stop, hop, fld, from, load, addr, lit, of-opd, bin, un, and-then, no-more, assigns, land, first, skips, branches, returns, returns-within, enter, alloc1, alloc0, params1}
+use types.Run.{pass1, pass0, exec}
 use types.Part.{agg, whole, sub, look-in}
 use sound.WpLaws.{fmOf, WpFn-mono}
 use denote.Builtin.{u8}
@@ -116,7 +117,8 @@ module _ {M : Type 1} (𝓤 : URA M) (H : Heap 𝓤) (A : Atoms 𝓤) (mem : Mem
     pub every : Triple 𝓤 (𝓣 .C mark-every-def.name) Every
     pub all : Triple 𝓤 (𝓣 .C all-marked-def.name) All
 
-module _ {M : Type 1} (𝓤 : URA M) (H : Heap 𝓤) (A : Atoms 𝓤) (W : Given 𝓤 H A) (mem : Memory → SProp 𝓤) (run : Routine → Fun 𝓤) (κs : Lfts 4) (κ κ₂ : Lft) (qs : Shares 4) (q q₂ : Share) (xs : Refs) (x : RefT (List Cluster)) (m : RefT (List ℕ))
+module _ {M : Type 1} (𝓤 : URA M) (H : Heap 𝓤) (A : Atoms 𝓤) (W : Given 𝓤 H A) (mem : Memory → SProp 𝓤) (run : Routine → Fun 𝓤) (κs : Lfts 4) (κ κ₂ : Lft) (qs : Shares 4) (q q₂ : Share) (xs : Refs)
+    (x : RefT (List Cluster)) (m : RefT (List ℕ))
     (rooms : Rooms xs x m) where
   abbrev P : List Cluster
   P = planOf (xs .0 .now) (xs .1 .1 .0 .now) (xs .1 .1 .1 .0 .now)
@@ -138,21 +140,27 @@ module _ {M : Type 1} (𝓤 : URA M) (H : Heap 𝓤) (A : Atoms 𝓤) (W : Given
 
   module _ (𝓣 : Tables 𝓤 H) (known : Known 𝓤 H A mem run 𝓣) (l₀ l₁ l₂ l₃ l₄ l₅ l₆ l₇ l₈ l₉ l₁₀ l₁₁ l₁₂ l₁₃ l₁₄ l₁₅ l₁₆ l₁₇ l₁₈ l₁₉ : ℕ) where
     abbrev En : Env 𝓤 H
-    En = (AllMarked″.mir, l₀) ∷ (text 0, l₁) ∷ (text 1, l₂) ∷ (text 2, l₃) ∷ (text 3, l₄) ∷ (records, l₅) ∷ (bytes, l₆) ∷ (tyBool, l₇) ∷ (Answer″.mir, l₈) ∷ (word, l₉) ∷ (word, l₁₀) ∷ (word, l₁₁) ∷ (word, l₁₂) ∷ (tyBool, l₁₃)
+    En = (AllMarked″.mir, l₀) ∷ (text 0, l₁) ∷ (text 1, l₂) ∷ (text 2, l₃) ∷ (text 3, l₄) ∷ (records, l₅) ∷ (bytes, l₆) ∷ (tyBool, l₇) ∷ (Answer″.mir, l₈) ∷ (word, l₉) ∷ (word, l₁₀) ∷ (word, l₁₁)
+        ∷ (word, l₁₂) ∷ (tyBool, l₁₃)
         ∷ (lender, l₁₄) ∷ (sliceTy lender, l₁₅) ∷ (lender₂, l₁₆) ∷ (sliceTy lender₂, l₁₇) ∷ (tyInt w32, l₁₈) ∷ (tyInt w32, l₁₉) ∷ []
 
-    -- the texts' tokens; the texts; the records' token; the records; the marks' token; the marks; the locals, each with what frees it. The test, the lengths, what is said of the lists and of the room are given
+    -- the texts' tokens; the texts; the records' token; the records; the marks' token; the marks; the locals, each with what frees it. The test, the lengths, what is said of the lists and of the room
+    -- are given
     abbrev With : Item 𝓤 → Item 𝓤 → Item 𝓤 → Item 𝓤 → Item 𝓤 → List (Item 𝓤)
     With t j n r s = raw (toks 𝓤 A 4 κs qs) ∷ ‵ (texts κs xs) ∷ ‵ (flft κ q) ∷ ‵ (Plan κ .own x (slice-vals x)) ∷ ‵ (flft κ₂ q₂) ∷ ‵ (Marks κ₂ .own m (slice-vals m))
-        ∷ ‵ (froom (tyInt w32) l₁₉ 0) ∷ ‵ (fdies (tyInt w32) l₁₉) ∷ ‵ (froom (tyInt w32) l₁₈ 0) ∷ ‵ (fdies (tyInt w32) l₁₈) ∷ ‵ (froom (sliceTy lender₂) l₁₇ 0) ∷ ‵ (fdies (sliceTy lender₂) l₁₇) ∷ ‵ (froom lender₂ l₁₆ 0) ∷ ‵ (fdies lender₂ l₁₆)
+        ∷ ‵ (froom (tyInt w32) l₁₉ 0) ∷ ‵ (fdies (tyInt w32) l₁₉) ∷ ‵ (froom (tyInt w32) l₁₈ 0) ∷ ‵ (fdies (tyInt w32) l₁₈) ∷ ‵ (froom (sliceTy lender₂) l₁₇ 0) ∷ ‵ (fdies (sliceTy lender₂) l₁₇)
+        ∷ ‵ (froom lender₂ l₁₆ 0) ∷ ‵ (fdies lender₂ l₁₆)
         ∷ ‵ (froom (sliceTy lender) l₁₅ 0) ∷ ‵ (fdies (sliceTy lender) l₁₅) ∷ ‵ (froom lender l₁₄ 0) ∷ ‵ (fdies lender l₁₄) ∷ t ∷ ‵ (fdies tyBool l₁₃) ∷ j ∷ ‵ (fdies word l₁₂) ∷ n ∷ ‵ (fdies word l₁₁)
         ∷ ‵ (froom word l₁₀ 0) ∷ ‵ (fdies word l₁₀) ∷ ‵ (froom word l₉ 0) ∷ ‵ (fdies word l₉) ∷ r ∷ ‵ (fdies Answer″.mir l₈) ∷ s ∷ ‵ (fdies tyBool l₇)
-        ∷ ‵ (fat fullShare bytes l₆ 0 (only (slice-vals m))) ∷ ‵ (fdies bytes l₆) ∷ ‵ (fat fullShare records l₅ 0 (only (slice-vals x))) ∷ ‵ (fdies records l₅) ∷ ‵ (fat fullShare (text 3) l₄ 0 (only (vals xs .1 .1 .1 .0))) ∷ ‵ (fdies (text 3) l₄)
-        ∷ ‵ (fat fullShare (text 2) l₃ 0 (only (vals xs .1 .1 .0))) ∷ ‵ (fdies (text 2) l₃) ∷ ‵ (fat fullShare (text 1) l₂ 0 (only (vals xs .1 .0))) ∷ ‵ (fdies (text 1) l₂) ∷ ‵ (fat fullShare (text 0) l₁ 0 (only (vals xs .0))) ∷ ‵ (fdies (text 0) l₁)
+        ∷ ‵ (fat fullShare bytes l₆ 0 (only (slice-vals m))) ∷ ‵ (fdies bytes l₆) ∷ ‵ (fat fullShare records l₅ 0 (only (slice-vals x))) ∷ ‵ (fdies records l₅)
+        ∷ ‵ (fat fullShare (text 3) l₄ 0 (only (vals xs .1 .1 .1 .0))) ∷ ‵ (fdies (text 3) l₄)
+        ∷ ‵ (fat fullShare (text 2) l₃ 0 (only (vals xs .1 .1 .0))) ∷ ‵ (fdies (text 2) l₃) ∷ ‵ (fat fullShare (text 1) l₂ 0 (only (vals xs .1 .0))) ∷ ‵ (fdies (text 1) l₂)
+        ∷ ‵ (fat fullShare (text 0) l₁ 0 (only (vals xs .0))) ∷ ‵ (fdies (text 0) l₁)
         ∷ ‵ (froom AllMarked″.mir l₀ 0) ∷ ‵ (fdies AllMarked″.mir l₀) ∷ []
 
     abbrev Judged : List (Item 𝓤)
-    Judged = With (‵ (fat fullShare tyBool l₁₃ 0 (vbool (not (eqb (refused .number) 0))))) (‵ (fat fullShare word l₁₂ 0 (vint w64 (length (m .now))))) (‵ (fat fullShare word l₁₁ 0 (vint w64 (length (x .now)))))
+    Judged = With (‵ (fat fullShare tyBool l₁₃ 0 (vbool (not (eqb (refused .number) 0))))) (‵ (fat fullShare word l₁₂ 0 (vint w64 (length (m .now)))))
+        (‵ (fat fullShare word l₁₁ 0 (vint w64 (length (x .now)))))
         (‵ (fat fullShare Answer″.mir l₈ 0 (Answer″.lowered refused))) (‵ (fat fullShare tyBool l₇ 0 (vbool small)))
 
     -- the lists are read: the records and the marks are passed on
@@ -166,34 +174,44 @@ module _ {M : Type 1} (𝓤 : URA M) (H : Heap 𝓤) (A : Atoms 𝓤) (W : Given
         let low : score < 2 ^ 32 = omega (arith, can .0 .score) in
         let says-so = all-given (xs .0 .now) (xs .1 .0 .now) (xs .1 .1 .0 .now) (xs .1 .1 .1 .0 .now) (x .now) (m .now) z in
         assigns ! (addr ! (from ! (fld ! refl (hop ! (look-in ! 34 (sub ! 0 refl (whole !))) (stop !))))) (from ! (stop !)) (init ! 16 refl (tt, tt)) $
-        assigns ! (agg ! (and-then ! (local ! 16 refl) (and-then ! (load ! (from ! (fld ! refl (stop !))) (look-in ! 34 (sub ! 1 refl (whole !)))) (no-more !)))) (from ! (stop !)) (init ! 14 refl (tt, (tt, (record { fits = rooms .plan .0 }, tt)))) $
+        assigns ! (agg ! (and-then ! (local ! 16 refl) (and-then ! (load ! (from ! (fld ! refl (stop !))) (look-in ! 34 (sub ! 1 refl (whole !)))) (no-more !)))) (from ! (stop !))
+        (init ! 14 refl (tt, (tt, (record { fits = rooms .plan .0 }, tt)))) $
         fills 𝓤 H A W κs qs xs 𝓣 ! R κ q x (fill-plan.clauses 𝓤 H A mem run) (known .fill) tt (factI 𝓤 _ (emp 𝓤) (can .0 .ready, plan-room)) (length P) (put (x .now) 0 P) (λ r l. refl)
         (and-then ! (local ! 41 refl) (and-then ! (local ! 37 refl) (and-then ! (local ! 35 refl) (and-then ! (local ! 13 refl) (no-more !))))) (λ big.
         land ! (from ! (stop !)) (init ! 26 refl (tt, record { fits = big })) $
         assigns ! (addr ! (from ! (fld ! refl (hop ! (look-in ! 32 (sub ! 0 refl (whole !))) (stop !))))) (from ! (stop !)) (init ! 12 refl (tt, tt)) $
-        assigns ! (agg ! (and-then ! (local ! 12 refl) (and-then ! (load ! (from ! (fld ! refl (stop !))) (look-in ! 32 (sub ! 1 refl (whole !)))) (no-more !)))) (from ! (stop !)) (init ! 10 refl (tt, (tt, (record { fits = rooms .marks .0 }, tt)))) $
+        assigns ! (agg ! (and-then ! (local ! 12 refl) (and-then ! (load ! (from ! (fld ! refl (stop !))) (look-in ! 32 (sub ! 1 refl (whole !)))) (no-more !)))) (from ! (stop !))
+        (init ! 10 refl (tt, (tt, (record { fits = rooms .marks .0 }, tt)))) $
         move ! (0 ∷ 1 ∷ 4 ∷ 5 ∷ []) $
-        fills 𝓤 H A W κs qs xs 𝓣 ! u8 κ₂ q₂ m (mark-every.clauses 𝓤 H A mem run) (known .every) tt (factI 𝓤 _ (emp 𝓤) (can .0 .ready, can .0 .short, marks-room)) score (put (m .now) 0 marks) (λ r l. refl)
+        fills 𝓤 H A W κs qs xs 𝓣 ! u8 κ₂ q₂ m (mark-every.clauses 𝓤 H A mem run) (known .every) tt (factI 𝓤 _ (emp 𝓤) (can .0 .ready, can .0 .short, marks-room)) score (put (m .now) 0 marks)
+        (λ r l. refl)
         (and-then ! (local ! 41 refl) (and-then ! (local ! 37 refl) (and-then ! (local ! 35 refl) (and-then ! (local ! 9 refl) (no-more !))))) (λ big₂.
         -- [the texts' tokens; the texts; the marks' token; the marks; the records' token; the records; _19; …]
         land ! (from ! (stop !)) (init ! 24 refl (tt, record { fits = big₂ })) $
         assigns ! (un ! (local ! 26 refl) (record { fits = few })) (from ! (stop !)) (init ! 8 refl (tt, record { fits = few })) $
         assigns ! (un ! (local ! 24 refl) (record { fits = low })) (from ! (stop !)) (init ! 6 refl (tt, record { fits = low })) $
-        tells-values ! (fmOf 𝓤 H (W .laws) 𝓣) all-marked.ended (all-marked.clauses 𝓤 H A mem run) (known .all) ((tt, tt, tt, (refused, (length P, (score, tt))), (Answer″.lowered refused ∷ [], (vint w32 (length P) ∷ [], (vint w32 score ∷ [], tt)))), tt) (id⊢ 𝓤 (emp 𝓤)) (id⊢ 𝓤 (emp 𝓤))
+        tells-values ! (fmOf 𝓤 H (W .laws) 𝓣) all-marked.ended (all-marked.clauses 𝓤 H A mem run) (known .all)
+        ((tt, tt, tt, (refused, (length P, (score, tt))), (Answer″.lowered refused ∷ [], (vint w32 (length P) ∷ [], (vint w32 score ∷ [], tt)))), tt) (id⊢ 𝓤 (emp 𝓤)) (id⊢ 𝓤 (emp 𝓤))
         ((LL.makes Answer′.the-type Answer″.the-plain) 𝓤 H A, (uint-makes 𝓤 H A W w32, (uint-makes 𝓤 H A W w32, tt))) (is, ((refl, few), ((refl, low), tt)))
         AllMarked″.lowered (AllMarked″.lowers .val-is) (allMarked refused (length P) score) (λ r ws. refl)
         (and-then ! (local ! 29 refl) (and-then ! (local ! 9 refl) (and-then ! (local ! 7 refl) (no-more !)))) (λ good.
         land ! (from ! (stop !)) (init ! 44 refl (LL.lawful AllMarked′.the-type AllMarked″.the-laws 𝓤 H A W .typed (allMarked refused (length P) score) _ good .0)) $
-        returns ! (look ! 44 refl) $ move ! (44 ∷ 45 ∷ 42 ∷ 43 ∷ 40 ∷ 41 ∷ 38 ∷ 39 ∷ 36 ∷ 37 ∷ 34 ∷ 35 ∷ 32 ∷ 33 ∷ 30 ∷ 31 ∷ 28 ∷ 29 ∷ 26 ∷ 27 ∷ 24 ∷ 25 ∷ 22 ∷ 23 ∷ 20 ∷ 21 ∷ 18 ∷ 19 ∷ 16 ∷ 17 ∷ 14 ∷ 15 ∷ 12 ∷ 13 ∷ 10 ∷ 11 ∷ 8 ∷ 9 ∷ 6 ∷ 7 ∷ []) $
-        leaves ! En (held _ ∷ held _ ∷ held _ ∷ held _ ∷ held _ ∷ held _ ∷ held _ ∷ held _ ∷ held _ ∷ held _ ∷ held _ ∷ held _ ∷ held _ ∷ held _ ∷ held _ ∷ held _ ∷ held _ ∷ held _ ∷ held _ ∷ held _ ∷ []) $
-        keep ! (0 ∷ 4 ∷ 2 ∷ 5 ∷ 3 ∷ []) $ by ! (exits 𝓤 H A mem run κs κ κ₂ qs q q₂ xs x m W (allMarked refused (length P) score) (put (x .now) 0 P) (put (m .now) 0 marks) good (sym (says-so .0), sym (says-so .1), sym (says-so .2))))))
+        returns ! (look ! 44 refl) $
+        move ! (44 ∷ 45 ∷ 42 ∷ 43 ∷ 40 ∷ 41 ∷ 38 ∷ 39 ∷ 36 ∷ 37 ∷ 34 ∷ 35 ∷ 32 ∷ 33 ∷ 30 ∷ 31 ∷ 28 ∷ 29 ∷ 26 ∷ 27 ∷ 24 ∷ 25 ∷ 22 ∷ 23 ∷ 20 ∷ 21 ∷ 18 ∷ 19 ∷ 16 ∷ 17 ∷ 14 ∷ 15 ∷ 12 ∷ 13 ∷ 10 ∷ 11
+        ∷ 8 ∷ 9 ∷ 6 ∷ 7 ∷ []) $
+        leaves ! En (held _ ∷ held _ ∷ held _ ∷ held _ ∷ held _ ∷ held _ ∷ held _ ∷ held _ ∷ held _ ∷ held _ ∷ held _ ∷ held _ ∷ held _ ∷ held _ ∷ held _ ∷ held _ ∷ held _ ∷ held _ ∷ held _ ∷ held _
+        ∷ []) $
+        keep ! (0 ∷ 4 ∷ 2 ∷ 5 ∷ 3 ∷ []) $
+        by ! (exits 𝓤 H A mem run κs κ κ₂ qs q q₂ xs x m W (allMarked refused (length P) score) (put (x .now) 0 P) (put (m .now) 0 marks) good
+        (sym (says-so .0), sym (says-so .1), sym (says-so .2))))))
 
     -- the lists are turned away: what is said of them is answered, and the records and the marks are given up
     starts : Sq W (With (‵ (froom tyBool l₁₃ 0)) (‵ (froom word l₁₂ 0)) (‵ (froom word l₁₁ 0)) (‵ (froom Answer″.mir l₈ 0)) (‵ (froom tyBool l₇ 0))) (runs (𝓣 .C) (𝓣 .Λ) En cm.t-1 (atRet En End))
     starts =
         assigns ! (of-opd ! (load ! (from ! (fld ! refl (stop !))) (look-in ! 34 (sub ! 1 refl (whole !))))) (from ! (stop !)) (init ! 22 refl (tt, record { fits = rooms .plan .0 })) $
         assigns ! (of-opd ! (load ! (from ! (fld ! refl (stop !))) (look-in ! 32 (sub ! 1 refl (whole !))))) (from ! (stop !)) (init ! 20 refl (tt, record { fits = rooms .marks .0 })) $
-        tells-values ! (fmOf 𝓤 H (W .laws) 𝓣) is-small.ended (is-small.clauses 𝓤 H A mem run) (known .small) ((tt, tt, tt, (length (x .now), (length (m .now), tt)), (vint w64 (length (x .now)) ∷ [], (vint w64 (length (m .now)) ∷ [], tt))), tt) (id⊢ 𝓤 (emp 𝓤)) (id⊢ 𝓤 (emp 𝓤))
+        tells-values ! (fmOf 𝓤 H (W .laws) 𝓣) is-small.ended (is-small.clauses 𝓤 H A mem run) (known .small)
+        ((tt, tt, tt, (length (x .now), (length (m .now), tt)), (vint w64 (length (x .now)) ∷ [], (vint w64 (length (m .now)) ∷ [], tt))), tt) (id⊢ 𝓤 (emp 𝓤)) (id⊢ 𝓤 (emp 𝓤))
         (uint-makes 𝓤 H A W w64, (uint-makes 𝓤 H A W w64, tt)) ((refl, rooms .plan .0), ((refl, rooms .marks .0), tt)) vbool bool-tells small (λ r ws. refl)
         (and-then ! (local ! 23 refl) (and-then ! (local ! 21 refl) (no-more !))) (λ _.
         land ! (from ! (stop !)) (init ! 30 refl (tt, tt)) $
@@ -202,13 +220,17 @@ module _ {M : Type 1} (𝓤 : URA M) (H : Heap 𝓤) (A : Atoms 𝓤) (W : Given
         land ! (from ! (stop !)) (init ! 28 refl fine) $
         assigns ! (bin ! (load ! (from ! (fld ! refl (stop !))) (look-in ! 28 (sub ! 0 refl (whole !)))) (lit ! tt) tt) (from ! (stop !)) (init ! 18 refl (tt, tt)) $
         first ! $ branches ! (local ! 18 refl) (λ taken.
-        tells-values ! (fmOf 𝓤 H (W .laws) 𝓣) all-marked.ended (all-marked.clauses 𝓤 H A mem run) (known .all) ((tt, tt, tt, (refused, (0, (0, tt))), (Answer″.lowered refused ∷ [], (vint w32 0 ∷ [], (vint w32 0 ∷ [], tt)))), tt) (id⊢ 𝓤 (emp 𝓤)) (id⊢ 𝓤 (emp 𝓤))
+        tells-values ! (fmOf 𝓤 H (W .laws) 𝓣) all-marked.ended (all-marked.clauses 𝓤 H A mem run) (known .all)
+        ((tt, tt, tt, (refused, (0, (0, tt))), (Answer″.lowered refused ∷ [], (vint w32 0 ∷ [], (vint w32 0 ∷ [], tt)))), tt) (id⊢ 𝓤 (emp 𝓤)) (id⊢ 𝓤 (emp 𝓤))
         ((LL.makes Answer′.the-type Answer″.the-plain) 𝓤 H A, (uint-makes 𝓤 H A W w32, (uint-makes 𝓤 H A W w32, tt))) (is, ((refl, lit< tt), ((refl, lit< tt), tt)))
         AllMarked″.lowered (AllMarked″.lowers .val-is) (allMarked refused 0 0) (λ r ws. refl) (and-then ! (local ! 29 refl) (and-then ! (lit ! tt) (and-then ! (lit ! tt) (no-more !)))) (λ good.
         land ! (from ! (stop !)) (init ! 44 refl (LL.lawful AllMarked′.the-type AllMarked″.the-laws 𝓤 H A W .typed (allMarked refused 0 0) _ good .0)) $
-        returns-within ! End refl (look ! 44 refl) $ move ! (44 ∷ 45 ∷ 42 ∷ 43 ∷ 40 ∷ 41 ∷ 38 ∷ 39 ∷ 36 ∷ 37 ∷ 34 ∷ 35 ∷ 32 ∷ 33 ∷ 30 ∷ 31 ∷ 28 ∷ 29 ∷ 26 ∷ 27 ∷ 24 ∷ 25 ∷ 22 ∷ 23 ∷ 20 ∷ 21 ∷ 18 ∷ 19 ∷ 16 ∷ 17 ∷ 14 ∷ 15 ∷ 12 ∷ 13 ∷ 10 ∷ 11 ∷ 8 ∷ 9 ∷ 6 ∷ 7 ∷ []) $
+        returns-within ! End refl (look ! 44 refl) $
+        move ! (44 ∷ 45 ∷ 42 ∷ 43 ∷ 40 ∷ 41 ∷ 38 ∷ 39 ∷ 36 ∷ 37 ∷ 34 ∷ 35 ∷ 32 ∷ 33 ∷ 30 ∷ 31 ∷ 28 ∷ 29 ∷ 26 ∷ 27 ∷ 24 ∷ 25 ∷ 22 ∷ 23 ∷ 20 ∷ 21 ∷ 18 ∷ 19 ∷ 16 ∷ 17 ∷ 14 ∷ 15 ∷ 12 ∷ 13 ∷ 10 ∷ 11
+        ∷ 8 ∷ 9 ∷ 6 ∷ 7 ∷ []) $
         leaves ! En (held _ ∷ held _ ∷ held _ ∷ held _ ∷ held _ ∷ held _ ∷ held _ ∷ held _ ∷ held _ ∷ empty ∷ empty ∷ held _ ∷ held _ ∷ held _ ∷ []) $
-        move ! (5 ∷ []) $ use1 W (‵ (Ends u8 m (m .now))) (gives-up 𝓤 H A W (named 5) κ₂ u8 m (slice-vals m)) $ move ! (4 ∷ []) $ use1 W (‵ (Ends R x (x .now))) (gives-up 𝓤 H A W (named 4) κ R x (slice-vals x)) $
+        move ! (5 ∷ []) $ use1 W (‵ (Ends u8 m (m .now))) (gives-up 𝓤 H A W (named 5) κ₂ u8 m (slice-vals m)) $ move ! (4 ∷ []) $
+        use1 W (‵ (Ends R x (x .now))) (gives-up 𝓤 H A W (named 4) κ R x (slice-vals x)) $
         -- [the records; the marks; the texts' tokens; the texts; the records' token; the marks' token]
         keep ! (2 ∷ 4 ∷ 5 ∷ 0 ∷ 1 ∷ []) $
         by ! (let says-so = all-refused (xs .0 .now) (xs .1 .0 .now) (xs .1 .1 .0 .now) (xs .1 .1 .1 .0 .now) (x .now) (m .now) (turned-away (refused .number) taken) in
@@ -229,8 +251,15 @@ module _ {M : Type 1} (𝓤 : URA M) (H : Heap 𝓤) (A : Atoms 𝓤) (W : Given
       use1 W (‵ (texts κs xs) ⊛ ‵ (Plan κ .own x (slice-vals x))) (last-out 𝓤 H A W (Plan κ) x (slice-vals x) (Texts κs) xs (vals xs)) $ split ! $
       -- [the texts; the records; the marks; the texts' tokens; the records' token; the marks' token]
       enter ! (𝓣 .C) (𝓣 .Λ) code.function _ _ $
-      alloc1 ! (λ l₀. alloc1 ! (λ l₁. alloc1 ! (λ l₂. alloc1 ! (λ l₃. alloc1 ! (λ l₄. alloc1 ! (λ l₅. alloc1 ! (λ l₆. alloc1 ! (λ l₇. alloc1 ! (λ l₈. alloc1 ! (λ l₉. alloc1 ! (λ l₁₀. alloc1 ! (λ l₁₁. alloc1 ! (λ l₁₂. alloc1 ! (λ l₁₃. alloc1 ! (λ l₁₄. alloc1 ! (λ l₁₅. alloc1 ! (λ l₁₆. alloc1 ! (λ l₁₇. alloc1 ! (λ l₁₈. alloc1 ! (λ l₁₉. alloc0 ! $ params1 ! $
-      pass1 ! (init ! 36 refl (tt, (tt, (record { fits = rooms .reference .0 }, tt)))) $ pass1 ! (init ! 34 refl (tt, (tt, (record { fits = rooms .name .0 }, tt)))) $ pass1 ! (init ! 32 refl (tt, (tt, (record { fits = rooms .first .0 }, tt)))) $ pass1 ! (init ! 30 refl (tt, (tt, (record { fits = rooms .second .0 }, tt)))) $
+      alloc1 ! (λ l₀. alloc1 !
+      (λ l₁. alloc1 ! (λ l₂. alloc1 !
+      (λ l₃. alloc1 ! (λ l₄. alloc1 !
+      (λ l₅. alloc1 ! (λ l₆. alloc1 !
+      (λ l₇. alloc1 ! (λ l₈. alloc1 !
+      (λ l₉. alloc1 ! (λ l₁₀. alloc1 !
+      (λ l₁₁. alloc1 ! (λ l₁₂. alloc1 ! (λ l₁₃. alloc1 ! (λ l₁₄. alloc1 ! (λ l₁₅. alloc1 ! (λ l₁₆. alloc1 ! (λ l₁₇. alloc1 ! (λ l₁₈. alloc1 ! (λ l₁₉. alloc0 ! $ params1 ! $
+      pass1 ! (init ! 36 refl (tt, (tt, (record { fits = rooms .reference .0 }, tt)))) $ pass1 ! (init ! 34 refl (tt, (tt, (record { fits = rooms .name .0 }, tt)))) $
+      pass1 ! (init ! 32 refl (tt, (tt, (record { fits = rooms .first .0 }, tt)))) $ pass1 ! (init ! 30 refl (tt, (tt, (record { fits = rooms .second .0 }, tt)))) $
       pass1 ! (init ! 28 refl (tt, (tt, (record { fits = rooms .plan .0 }, tt)))) $ pass1 ! (init ! 26 refl (tt, (tt, (record { fits = rooms .marks .0 }, tt)))) $ pass0 ! $
       move ! (43 ∷ 40 ∷ 44 ∷ 41 ∷ 45 ∷ 42 ∷ []) $ starts 𝓣 known l₀ l₁ l₂ l₃ l₄ l₅ l₆ l₇ l₈ l₉ l₁₀ l₁₁ l₁₂ l₁₃ l₁₄ l₁₅ l₁₆ l₁₇ l₁₈ l₁₉))))))))))))))))))))
 

@@ -91,8 +91,10 @@ made-value = arrayVal (replicate leastRoom (Cluster″.lowered none))
 is-made : Is (Array R leastRoom) emptyPlan (made-value ∷ [])
 is-made = repeated leastRoom none (made none (lit< tt) (lit< tt))
 
-module _ {M : Type 1} (𝓤 : URA M) (H : Heap 𝓤) (A : Atoms 𝓤) (W : Given 𝓤 H A) (mem : Memory → SProp 𝓤) (run : Routine → Fun 𝓤) (κs : Lfts 4) (κ : Lft) (qs : Shares 4) (q : Share) (xs : Refs) (m : RefT (List ℕ))
-    (g₁ : Room u8 (length (xs .0 .now))) (g₂ : Room u8 (length (xs .1 .0 .now))) (g₃ : Room u8 (length (xs .1 .1 .0 .now))) (g₄ : Room u8 (length (xs .1 .1 .1 .0 .now))) (gm : Room u8 (length (m .now)))
+module _ {M : Type 1} (𝓤 : URA M) (H : Heap 𝓤) (A : Atoms 𝓤) (W : Given 𝓤 H A) (mem : Memory → SProp 𝓤) (run : Routine → Fun 𝓤) (κs : Lfts 4) (κ : Lft) (qs : Shares 4) (q : Share) (xs : Refs)
+    (m : RefT (List ℕ))
+    (g₁ : Room u8 (length (xs .0 .now))) (g₂ : Room u8 (length (xs .1 .0 .now))) (g₃ : Room u8 (length (xs .1 .1 .0 .now))) (g₄ : Room u8 (length (xs .1 .1 .1 .0 .now)))
+    (gm : Room u8 (length (m .now)))
     (ys : List Cluster) (y : Val) (ys-are : ys ≡ emptyPlan) (y-is : made-value ≡ y) (is-y : Is (Array R leastRoom) ys (y ∷ [])) where
   abbrev Marks : RattleType
   Marks = MutSlice (named 4) κ u8
@@ -121,53 +123,68 @@ module _ {M : Type 1} (𝓤 : URA M) (H : Heap 𝓤) (A : Atoms 𝓤) (W : Given
   abbrev both : AllMarked → List Cluster → MarkedLists
   both r zs = record { answer = r; plan = zs }
 
-  is-both : (r : AllMarked) (v : Val) (zs : List Cluster) → Is AllMarked′.the-row r (v ∷ []) → Is (Array R leastRoom) zs (spelled zs ∷ []) → Is MarkedLists′.the-row (both r zs) (vstruct (ofList (v ∷ spelled zs ∷ [])) ∷ [])
+  is-both : (r : AllMarked) (v : Val) (zs : List Cluster) → Is AllMarked′.the-row r (v ∷ []) → Is (Array R leastRoom) zs (spelled zs ∷ [])
+      → Is MarkedLists′.the-row (both r zs) (vstruct (ofList (v ∷ spelled zs ∷ [])) ∷ [])
   is-both r v zs is there = ((v ∷ [], (spelled zs ∷ [], tt)), (refl, (is, (as-field leastRoom zs there, tt))))
 
-  exits : (l : ℕ) (δ : GName) (r : AllMarked) (v : Val) (zs : List Cluster) (ms : List ℕ) → Is MarkedLists′.the-row (both r zs) (vstruct (ofList (v ∷ spelled zs ∷ [])) ∷ []) → Said xs (lent l δ) m r zs ms
+  exits : (l : ℕ) (δ : GName) (r : AllMarked) (v : Val) (zs : List Cluster) (ms : List ℕ) → Is MarkedLists′.the-row (both r zs) (vstruct (ofList (v ∷ spelled zs ∷ [])) ∷ [])
+      → Said xs (lent l δ) m r zs ms
       → ent 𝓤 (⋆ 𝓤 H A (raw (toks 𝓤 A 4 κs qs) ∷ ‵ (flft κ q) ∷ ‵ (Ends u8 m ms) ∷ [])) (Post (vstruct (ofList (v ∷ spelled zs ∷ []))))
   exits l δ r v zs ms good e =
       let first = e .0 ∙ ap (λ (n : ℕ). allAnswered (xs .0 .now) (xs .1 .0 .now) (xs .1 .1 .0 .now) (xs .1 .1 .1 .0 .now) n (length (m .now))) len in
       let second = e .1 ∙ ap (λ (l : List Cluster). allPlan (xs .0 .now) (xs .1 .0 .now) (xs .1 .1 .0 .now) (xs .1 .1 .1 .0 .now) l (m .now)) ys-are in
       let third = e .2 ∙ ap (λ (l : List Cluster). allBytes (xs .0 .now) (xs .1 .0 .now) (xs .1 .1 .0 .now) (xs .1 .1 .1 .0 .now) l (m .now)) ys-are in
       qed W (raw (toks 𝓤 A 4 κs qs) ∷ ‵ (flft κ q) ∷ ‵ (Ends u8 m ms) ∷ []) ∵
-      suffices ! _ (ends-at 𝓤 H A marked-lists.ended stayed (marked-lists.clauses 𝓤 H A mem run) W passed (vstruct (ofList (v ∷ spelled zs ∷ []))) (both r zs) (tt, (tt, (tt, (tt, (ms, tt))))) (tt, (tt, (tt, (tt, (tt, tt)))))) $ says ! (first, second, third) $
+      suffices ! _ (ends-at 𝓤 H A marked-lists.ended stayed (marked-lists.clauses 𝓤 H A mem run) W passed (vstruct (ofList (v ∷ spelled zs ∷ []))) (both r zs) (tt, (tt, (tt, (tt, (ms, tt)))))
+      (tt, (tt, (tt, (tt, (tt, tt)))))) $ says ! (first, second, third) $
       use2 W (raw (toks 𝓤 A 5 (lastLft 4 κs κ) (lastShare 4 qs q))) (token-in 𝓤 H A W κ q 4 κs qs) $ frame ! $
       nothing ! $ move ! (1 ∷ 0 ∷ []) $ fjoin ! $ nothing ! $ fjoin ! $ nothing ! $ fjoin ! $ nothing ! $ fjoin ! $ nothing ! $ fjoin ! $ frame ! $
       owned ! MarkedLists′.the-row (Is MarkedLists′.the-row) ((LL.makes MarkedLists′.the-type MarkedLists″.the-plain) 𝓤 H A) (both r zs) (vstruct (ofList (v ∷ spelled zs ∷ [])) ∷ []) good $ done !
 
   module _ (𝓣 : Tables 𝓤 H) (known : Triple 𝓤 (𝓣 .C mark-all-def.name) (All 𝓤 H A mem run)) (l₀ l₁ l₂ l₃ l₄ l₅ l₆ l₇ l₈ l₉ l₁₀ l₁₁ l₁₂ l₁₃ : ℕ) where
     abbrev En : Env 𝓤 H
-    En = (MarkedLists″.mir, l₀) ∷ (text 0, l₁) ∷ (text 1, l₂) ∷ (text 2, l₃) ∷ (text 3, l₄) ∷ (bytes, l₅) ∷ (array leastRoom, l₆) ∷ (AllMarked″.mir, l₇) ∷ (Cluster″.mir, l₈) ∷ (whole-on, l₉) ∷ (records-on, l₁₀) ∷ (bytes-on, l₁₁) ∷ (sliceTy bytes-on, l₁₂) ∷ (array leastRoom, l₁₃) ∷ []
+    En = (MarkedLists″.mir, l₀) ∷ (text 0, l₁) ∷ (text 1, l₂) ∷ (text 2, l₃) ∷ (text 3, l₄) ∷ (bytes, l₅) ∷ (array leastRoom, l₆) ∷ (AllMarked″.mir, l₇) ∷ (Cluster″.mir, l₈) ∷ (whole-on, l₉)
+        ∷ (records-on, l₁₀) ∷ (bytes-on, l₁₁) ∷ (sliceTy bytes-on, l₁₂) ∷ (array leastRoom, l₁₃) ∷ []
 
     -- the parameters' cells and the result's, each with what frees it
     abbrev Params : List (Item 𝓤)
-    Params = ‵ (fat fullShare bytes l₅ 0 (only (slice-vals m))) ∷ ‵ (fdies bytes l₅) ∷ ‵ (fat fullShare (text 3) l₄ 0 (only (vals xs .1 .1 .1 .0))) ∷ ‵ (fdies (text 3) l₄) ∷ ‵ (fat fullShare (text 2) l₃ 0 (only (vals xs .1 .1 .0))) ∷ ‵ (fdies (text 2) l₃)
-        ∷ ‵ (fat fullShare (text 1) l₂ 0 (only (vals xs .1 .0))) ∷ ‵ (fdies (text 1) l₂) ∷ ‵ (fat fullShare (text 0) l₁ 0 (only (vals xs .0))) ∷ ‵ (fdies (text 0) l₁) ∷ ‵ (froom MarkedLists″.mir l₀ 0) ∷ ‵ (fdies MarkedLists″.mir l₀) ∷ []
+    Params = ‵ (fat fullShare bytes l₅ 0 (only (slice-vals m))) ∷ ‵ (fdies bytes l₅) ∷ ‵ (fat fullShare (text 3) l₄ 0 (only (vals xs .1 .1 .1 .0))) ∷ ‵ (fdies (text 3) l₄)
+        ∷ ‵ (fat fullShare (text 2) l₃ 0 (only (vals xs .1 .1 .0))) ∷ ‵ (fdies (text 2) l₃)
+        ∷ ‵ (fat fullShare (text 1) l₂ 0 (only (vals xs .1 .0))) ∷ ‵ (fdies (text 1) l₂) ∷ ‵ (fat fullShare (text 0) l₁ 0 (only (vals xs .0))) ∷ ‵ (fdies (text 0) l₁) ∷ ‵ (froom MarkedLists″.mir l₀ 0)
+        ∷ ‵ (fdies MarkedLists″.mir l₀) ∷ []
 
-    starts : Sq W (raw (toks 𝓤 A 4 κs qs) ∷ ‵ (texts κs xs) ∷ ‵ (flft κ q) ∷ ‵ (Marks .own m (slice-vals m)) ∷ ‵ (froom (array leastRoom) l₁₃ 0) ∷ ‵ (fdies (array leastRoom) l₁₃) ∷ ‵ (froom (sliceTy bytes-on) l₁₂ 0) ∷ ‵ (fdies (sliceTy bytes-on) l₁₂)
-        ∷ ‵ (froom bytes-on l₁₁ 0) ∷ ‵ (fdies bytes-on l₁₁) ∷ ‵ (froom records-on l₁₀ 0) ∷ ‵ (fdies records-on l₁₀) ∷ ‵ (froom whole-on l₉ 0) ∷ ‵ (fdies whole-on l₉) ∷ ‵ (froom Cluster″.mir l₈ 0) ∷ ‵ (fdies Cluster″.mir l₈)
+    starts : Sq W (raw (toks 𝓤 A 4 κs qs) ∷ ‵ (texts κs xs) ∷ ‵ (flft κ q) ∷ ‵ (Marks .own m (slice-vals m)) ∷ ‵ (froom (array leastRoom) l₁₃ 0) ∷ ‵ (fdies (array leastRoom) l₁₃)
+        ∷ ‵ (froom (sliceTy bytes-on) l₁₂ 0) ∷ ‵ (fdies (sliceTy bytes-on) l₁₂)
+        ∷ ‵ (froom bytes-on l₁₁ 0) ∷ ‵ (fdies bytes-on l₁₁) ∷ ‵ (froom records-on l₁₀ 0) ∷ ‵ (fdies records-on l₁₀) ∷ ‵ (froom whole-on l₉ 0) ∷ ‵ (fdies whole-on l₉) ∷ ‵ (froom Cluster″.mir l₈ 0)
+        ∷ ‵ (fdies Cluster″.mir l₈)
         ∷ ‵ (froom AllMarked″.mir l₇ 0) ∷ ‵ (fdies AllMarked″.mir l₇) ∷ ‵ (froom (array leastRoom) l₆ 0) ∷ ‵ (fdies (array leastRoom) l₆) ∷ Params) (runs (𝓣 .C) (𝓣 .Λ) En cm.t-1 (atRet En Post))
     starts =
         assigns ! (agg ! (and-then ! (lit ! tt) (and-then ! (lit ! tt) (no-more !)))) (from ! (stop !)) (init ! 14 refl (tt, (record { fits = lit< tt }, (record { fits = lit< tt }, tt)))) $
-        assigns ! (rep ! leastRoom (local ! 14 refl)) (from ! (stop !)) (init ! 18 refl (array-lawful 𝓤 H A W R (LL.lawful Cluster′.the-type Cluster″.the-laws 𝓤 H A W) leastRoom .typed emptyPlan (made-value ∷ []) is-made .0)) $
+        assigns ! (rep ! leastRoom (local ! 14 refl)) (from ! (stop !))
+        (init ! 18 refl (array-lawful 𝓤 H A W R (LL.lawful Cluster′.the-type Cluster″.the-laws 𝓤 H A W) leastRoom .typed emptyPlan (made-value ∷ []) is-made .0)) $
         rewrite ! 18 (λ (v : Val). ‵ (fat fullShare (array leastRoom) l₆ 0 v)) y-is refl $
         assigns ! (addr ! (from ! (stop !))) (from ! (stop !)) (init ! 12 refl (tt, tt)) $
-        assigns ! (agg ! (and-then ! (local ! 12 refl) (and-then ! (big-lit ! (record { fits = lit< tt })) (no-more !)))) (from ! (stop !)) (init ! 10 refl (tt, (tt, (record { fits = lit< tt }, tt)))) $
+        assigns ! (agg ! (and-then ! (local ! 12 refl) (and-then ! (big-lit ! (record { fits = lit< tt })) (no-more !)))) (from ! (stop !)) (init ! 10 refl (tt, (tt, (record { fits = lit< tt }, tt))))
+        $
         rewrite ! 10 (λ (n : ℕ). ‵ (fat fullShare records-on l₁₀ 0 (sliceVal (l₆, 0) n))) (sym len) refl $
         assigns ! (addr ! (from ! (fld ! refl (hop ! (look-in ! 20 (sub ! 0 refl (whole !))) (stop !))))) (from ! (stop !)) (init ! 8 refl (tt, tt)) $
-        assigns ! (agg ! (and-then ! (local ! 8 refl) (and-then ! (load ! (from ! (fld ! refl (stop !))) (look-in ! 20 (sub ! 1 refl (whole !)))) (no-more !)))) (from ! (stop !)) (init ! 6 refl (tt, (tt, (record { fits = gm .0 }, tt)))) $
+        assigns ! (agg ! (and-then ! (local ! 8 refl) (and-then ! (load ! (from ! (fld ! refl (stop !))) (look-in ! 20 (sub ! 1 refl (whole !)))) (no-more !)))) (from ! (stop !))
+        (init ! 6 refl (tt, (tt, (record { fits = gm .0 }, tt)))) $
         -- the array is lent, and all is passed on
         move ! (18 ∷ []) $ lends-array ! tt (named 4) leastRoom ys y is-y room l₆ (λ ν δ.
         move ! (3 ∷ 0 ∷ []) $ use2 W (raw (toks 𝓤 A 5 (lastLft 4 κs (ν ∷ [])) (lastShare 4 qs fullShare))) (token-in 𝓤 H A W (ν ∷ []) fullShare 4 κs qs) $
         move ! (0 ∷ 4 ∷ []) $ use2 W (raw (toks 𝓤 A 6 (to-all l₆ ν δ .0 .0) (to-all l₆ ν δ .0 .1))) (token-in 𝓤 H A W κ q 5 (lastLft 4 κs (ν ∷ [])) (lastShare 4 qs fullShare)) $
-        move ! (3 ∷ 1 ∷ []) $ use2 W (‵ (owns (Texts κs ++ (Plan (ν ∷ []) ∷ [])) (lastIn (Texts κs) (Plan (ν ∷ [])) xs (lent l₆ δ)) (lastVals (Texts κs) (Plan (ν ∷ [])) (vals xs) (slice-vals (lent l₆ δ)))))
+        move ! (3 ∷ 1 ∷ []) $
+        use2 W (‵ (owns (Texts κs ++ (Plan (ν ∷ []) ∷ [])) (lastIn (Texts κs) (Plan (ν ∷ [])) xs (lent l₆ δ)) (lastVals (Texts κs) (Plan (ν ∷ [])) (vals xs) (slice-vals (lent l₆ δ)))))
         (last-in 𝓤 H A W (Plan (ν ∷ [])) (lent l₆ δ) (slice-vals (lent l₆ δ)) (Texts κs) xs (vals xs)) $
         move ! (0 ∷ 3 ∷ []) $ use2 W (‵ (owns ((Texts κs ++ (Plan (ν ∷ []) ∷ [])) ++ (Marks ∷ [])) (to-all l₆ ν δ .0 .3) (to-all l₆ ν δ .0 .4)))
-        (last-in 𝓤 H A W Marks m (slice-vals m) (Texts κs ++ (Plan (ν ∷ []) ∷ [])) (lastIn (Texts κs) (Plan (ν ∷ [])) xs (lent l₆ δ)) (lastVals (Texts κs) (Plan (ν ∷ [])) (vals xs) (slice-vals (lent l₆ δ)))) $ move ! (1 ∷ 0 ∷ []) $
+        (last-in 𝓤 H A W Marks m (slice-vals m) (Texts κs ++ (Plan (ν ∷ []) ∷ [])) (lastIn (Texts κs) (Plan (ν ∷ [])) xs (lent l₆ δ))
+        (lastVals (Texts κs) (Plan (ν ∷ [])) (vals xs) (slice-vals (lent l₆ δ)))) $ move ! (1 ∷ 0 ∷ []) $
         -- [the tokens; what is passed; what the lender keeps; _13; …; _7; …; _6's end; _5; …]
-        asks-lent ! (fmOf 𝓤 H (W .laws) 𝓣) mark-all.ended (mark-all.clauses 𝓤 H A mem run) known (to-all l₆ ν δ) (id⊢ 𝓤 (emp 𝓤)) (λ r ws. Said xs (lent l₆ δ) m r (ws .1 .1 .1 .1 .0) (ws .1 .1 .1 .1 .1 .0)) (λ r ws. refl)
-        (and-then ! (local ! 25 refl) (and-then ! (local ! 23 refl) (and-then ! (local ! 21 refl) (and-then ! (local ! 19 refl) (and-then ! (local ! 8 refl) (and-then ! (local ! 4 refl) (no-more !))))))) (λ r v is ws e.
+        asks-lent ! (fmOf 𝓤 H (W .laws) 𝓣) mark-all.ended (mark-all.clauses 𝓤 H A mem run) known (to-all l₆ ν δ) (id⊢ 𝓤 (emp 𝓤))
+        (λ r ws. Said xs (lent l₆ δ) m r (ws .1 .1 .1 .1 .0) (ws .1 .1 .1 .1 .1 .0)) (λ r ws. refl)
+        (and-then ! (local ! 25 refl)
+        (and-then ! (local ! 23 refl) (and-then ! (local ! 21 refl) (and-then ! (local ! 19 refl) (and-then ! (local ! 8 refl) (and-then ! (local ! 4 refl) (no-more !))))))) (λ r v is ws e.
         land ! (from ! (stop !)) (init ! 15 refl (LL.lawful AllMarked′.the-type AllMarked″.the-laws 𝓤 H A W .typed r _ is .0)) $
         -- what was lent comes back: [the records' last list; the marks'; …; the tokens; what the lender keeps; _13; …]
         move ! (1 ∷ []) $ fsplit3 ! $ drop ! $ drop ! $ fsplit3 ! $ drop ! $ drop ! $ fsplit3 ! $ fsplit ! $ move ! (4 ∷ []) $
@@ -175,7 +192,8 @@ module _ {M : Type 1} (𝓤 : URA M) (H : Heap 𝓤) (A : Atoms 𝓤) (W : Given
         use1 W (raw (toks 𝓤 A 4 κs qs) ⊛ ‵ (flft (ν ∷ []) fullShare)) (token-out 𝓤 H A W (ν ∷ []) fullShare 4 κs qs) $ split ! $ move ! (1 ∷ 7 ∷ 3 ∷ []) $
         array-back ! tt leastRoom (ws .1 .1 .1 .1 .0) l₆ ν δ (λ there.
         -- [_6; the texts' tokens; the marks' token; …; the marks; …; _13; …; _7; …; _6's end; _5; …]
-        assigns ! (of-opd ! (local ! 0 refl)) (from ! (stop !)) (init ! 6 refl (array-lawful 𝓤 H A W R (LL.lawful Cluster′.the-type Cluster″.the-laws 𝓤 H A W) leastRoom .typed (ws .1 .1 .1 .1 .0) _ there .0)) $
+        assigns ! (of-opd ! (local ! 0 refl)) (from ! (stop !))
+        (init ! 6 refl (array-lawful 𝓤 H A W R (LL.lawful Cluster′.the-type Cluster″.the-laws 𝓤 H A W) leastRoom .typed (ws .1 .1 .1 .1 .0) _ there .0)) $
         assigns ! (agg ! (and-then ! (local ! 18 refl) (and-then ! (local ! 6 refl) (no-more !)))) (from ! (stop !))
         (init ! 31 refl (LL.lawful MarkedLists′.the-type MarkedLists″.the-laws 𝓤 H A W .typed (both r (ws .1 .1 .1 .1 .0)) _ (is-both r v (ws .1 .1 .1 .1 .0) is there) .0)) $
         returns ! (look ! 31 refl) $ move ! (31 ∷ 32 ∷ 29 ∷ 30 ∷ 27 ∷ 28 ∷ 25 ∷ 26 ∷ 23 ∷ 24 ∷ 21 ∷ 22 ∷ 0 ∷ 20 ∷ 18 ∷ 19 ∷ 16 ∷ 17 ∷ 14 ∷ 15 ∷ 12 ∷ 13 ∷ 10 ∷ 11 ∷ 8 ∷ 9 ∷ 6 ∷ 7 ∷ []) $
@@ -183,21 +201,36 @@ module _ {M : Type 1} (𝓤 : URA M) (H : Heap 𝓤) (A : Atoms 𝓤) (W : Given
         keep ! (0 ∷ 1 ∷ 3 ∷ []) $ by ! (exits l₆ δ r v (ws .1 .1 .1 .1 .0) (ws .1 .1 .1 .1 .1 .0) (is-both r v (ws .1 .1 .1 .1 .0) is there) e))))
 
   walk : (𝓣 : Tables 𝓤 H) → Triple 𝓤 (𝓣 .C mark-all-def.name) (All 𝓤 H A mem run)
-      → ent 𝓤 (onEntry 𝓤 H A marked-lists.signature (passed .0 .0) (passed .0 .1) (passed .0 .3) (passed .0 .4)) (WpFn 𝓤 H (𝓣 .C) (𝓣 .Λ) code.function (walkOf 𝓤 H A marked-lists.ended stayed (marked-lists.clauses 𝓤 H A mem run) .args passed) Post)
+      → ent 𝓤 (onEntry 𝓤 H A marked-lists.signature (passed .0 .0) (passed .0 .1) (passed .0 .3) (passed .0 .4))
+      (WpFn 𝓤 H (𝓣 .C) (𝓣 .Λ) code.function (walkOf 𝓤 H A marked-lists.ended stayed (marked-lists.clauses 𝓤 H A mem run) .args passed) Post)
   walk 𝓣 known =
       qed W (raw (toks 𝓤 A 5 (lastLft 4 κs κ) (lastShare 4 qs q)) ∷ ‵ (owns (Texts κs ++ (Marks ∷ [])) (passed .0 .3) (passed .0 .4)) ∷ []) ∵
-      use1 W (raw (toks 𝓤 A 4 κs qs) ⊛ ‵ (flft κ q)) (token-out 𝓤 H A W κ q 4 κs qs) $ split ! $ move ! (2 ∷ []) $ use1 W (‵ (texts κs xs) ⊛ ‵ (Marks .own m (slice-vals m))) (last-out 𝓤 H A W Marks m (slice-vals m) (Texts κs) xs (vals xs)) $ split ! $
+      use1 W (raw (toks 𝓤 A 4 κs qs) ⊛ ‵ (flft κ q)) (token-out 𝓤 H A W κ q 4 κs qs) $ split ! $ move ! (2 ∷ []) $
+      use1 W (‵ (texts κs xs) ⊛ ‵ (Marks .own m (slice-vals m))) (last-out 𝓤 H A W Marks m (slice-vals m) (Texts κs) xs (vals xs)) $ split ! $
       -- [the texts; the marks; the texts' tokens; the marks' token]
       enter ! (𝓣 .C) (𝓣 .Λ) code.function _ _ $
-      alloc1 ! (λ l₀. alloc1 ! (λ l₁. alloc1 ! (λ l₂. alloc1 ! (λ l₃. alloc1 ! (λ l₄. alloc1 ! (λ l₅. alloc1 ! (λ l₆. alloc1 ! (λ l₇. alloc1 ! (λ l₈. alloc1 ! (λ l₉. alloc1 ! (λ l₁₀. alloc1 ! (λ l₁₁. alloc1 ! (λ l₁₂. alloc1 ! (λ l₁₃. alloc0 ! $ params1 ! $
-      pass1 ! (init ! 24 refl (tt, (tt, (record { fits = g₁ .0 }, tt)))) $ pass1 ! (init ! 22 refl (tt, (tt, (record { fits = g₂ .0 }, tt)))) $ pass1 ! (init ! 20 refl (tt, (tt, (record { fits = g₃ .0 }, tt)))) $ pass1 ! (init ! 18 refl (tt, (tt, (record { fits = g₄ .0 }, tt)))) $ pass1 ! (init ! 16 refl (tt, (tt, (record { fits = gm .0 }, tt)))) $ pass0 ! $
+      alloc1 ! (λ l₀. alloc1 !
+      (λ l₁. alloc1 ! (λ l₂. alloc1 !
+      (λ l₃. alloc1 ! (λ l₄. alloc1 !
+      (λ l₅. alloc1 ! (λ l₆. alloc1 ! (λ l₇. alloc1 ! (λ l₈. alloc1 ! (λ l₉. alloc1 ! (λ l₁₀. alloc1 ! (λ l₁₁. alloc1 ! (λ l₁₂. alloc1 ! (λ l₁₃. alloc0 ! $ params1 ! $
+      pass1 ! (init ! 24 refl (tt, (tt, (record { fits = g₁ .0 }, tt)))) $ pass1 ! (init ! 22 refl (tt, (tt, (record { fits = g₂ .0 }, tt)))) $
+      pass1 ! (init ! 20 refl (tt, (tt, (record { fits = g₃ .0 }, tt)))) $ pass1 ! (init ! 18 refl (tt, (tt, (record { fits = g₄ .0 }, tt)))) $
+      pass1 ! (init ! 16 refl (tt, (tt, (record { fits = gm .0 }, tt)))) $ pass0 ! $
       move ! (30 ∷ 28 ∷ 31 ∷ 29 ∷ []) $ starts 𝓣 known l₀ l₁ l₂ l₃ l₄ l₅ l₆ l₇ l₈ l₉ l₁₀ l₁₁ l₁₂ l₁₃))))))))))))))
 
-module _ {M : Type 1} (𝓤 : URA M) (H : Heap 𝓤) (A : Atoms 𝓤) (W : Given 𝓤 H A) (mem : Memory → SProp 𝓤) (run : Routine → Fun 𝓤) (𝓣 : Tables 𝓤 H) (known : Triple 𝓤 (𝓣 .C mark-all-def.name) (All 𝓤 H A mem run)) where
+module _ {M : Type 1} (𝓤 : URA M) (H : Heap 𝓤) (A : Atoms 𝓤) (W : Given 𝓤 H A) (mem : Memory → SProp 𝓤) (run : Routine → Fun 𝓤) (𝓣 : Tables 𝓤 H)
+    (known : Triple 𝓤 (𝓣 .C mark-all-def.name) (All 𝓤 H A mem run)) where
   marked-lists-walks : Walks 𝓤 H A marked-lists.ended stayed (WpFn 𝓤 H (𝓣 .C) (𝓣 .Λ) code.function) (marked-lists.clauses 𝓤 H A mem run)
   marked-lists-walks =
-      walked 𝓤 H A marked-lists.ended stayed (marked-lists.clauses 𝓤 H A mem run) (WpFn 𝓤 H (𝓣 .C) (𝓣 .Λ) code.function) (λ κs. (slice-vals, (slice-vals, (slice-vals, (slice-vals, (slice-vals, tt))))))
-      (λ κs. (shr-slice-tells (named 0) (κs .0) u8, (shr-slice-tells (named 1) (κs .1 .0) u8, (shr-slice-tells (named 2) (κs .1 .1 .0) u8, (shr-slice-tells (named 3) (κs .1 .1 .1 .0) u8, (mut-slice-tells (named 4) (κs .1 .1 .1 .1 .0) u8, tt))))))
+      walked 𝓤 H A marked-lists.ended stayed (marked-lists.clauses 𝓤 H A mem run) (WpFn 𝓤 H (𝓣 .C) (𝓣 .Λ) code.function)
+      (λ κs. (slice-vals, (slice-vals, (slice-vals, (slice-vals, (slice-vals, tt))))))
+      (λ κs. (
+        shr-slice-tells (named 0) (κs .0) u8,
+        (
+          shr-slice-tells (named 1) (κs .1 .0) u8,
+          (shr-slice-tells (named 2) (κs .1 .1 .0) u8, (shr-slice-tells (named 3) (κs .1 .1 .1 .0) u8, (mut-slice-tells (named 4) (κs .1 .1 .1 .1 .0) u8, tt))),
+        ),
+      ))
       (λ κs qs bounds a g are. via 𝓤 _ (fst∗ 𝓤 _ (emp 𝓤))
       (walk 𝓤 H A W mem run (κs .0, (κs .1 .0, (κs .1 .1 .0, (κs .1 .1 .1 .0, tt)))) (κs .1 .1 .1 .1 .0) (qs .0, (qs .1 .0, (qs .1 .1 .0, (qs .1 .1 .1 .0, tt)))) (qs .1 .1 .1 .1 .0)
       (a .0, (a .1 .0, (a .1 .1 .0, (a .1 .1 .1 .0, tt)))) (a .1 .1 .1 .1 .0) (are .0 .0 .1) (are .1 .0 .0 .1) (are .1 .1 .0 .0 .1) (are .1 .1 .1 .0 .0 .1) (are .1 .1 .1 .1 .0 .0 .1)

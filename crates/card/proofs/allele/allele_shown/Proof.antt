@@ -82,36 +82,44 @@ refused-requires-4 c κs = search needs
 
 returns-4 : tie.Need-returns-4
 returns-4 c =
-    let r = c .before .before .before .before .before .before .before .before .before .before .before .before .before .args .reference .now in
-    let name = c .before .before .before .before .before .before .before .before .before .before .before .before .before .args .name .now in
-    let t = c .before .before .before .before .before .before .before .before .before .before .before .before .before .args .text .now in
-    let i = c .before .before .before .before .before .before .before .before .before .before .before .before .before .args .entry in
-    let k = c .before .before .before .before .before .before .before .before .before .before .before .before .before .args .allele in
-    let right = sym (c .before .before .before .before .before .before .before .before .before .is-reference .ensures) ∙ not-false _ (c .before .before .before .before .before .before .before .before .if1 .left) in
+    let c8 = c .before .before .before .before .before .before .before .before in
+    let r = c8 .before .before .before .before .before .args .reference .now in
+    let name = c8 .before .before .before .before .before .args .name .now in
+    let t = c8 .before .before .before .before .before .args .text .now in
+    let i = c8 .before .before .before .before .before .args .entry in
+    let k = c8 .before .before .before .before .before .args .allele in
+    let right = sym (c8 .before .is-reference .ensures) ∙ not-false _ (c8 .if1 .left) in
     let accepted = sym (ap (λ (f : Fault). f .number) (c .before .before .before .before .before .before .before .judge .ensures)) ∙ c .before .before .before .before .before .before .if2 .left in
-    c .refused4 .ensures ∙ sym (shown-no-allele r name t i k right accepted (c .before .before .before .before .before .record-at .result) (c .before .before .before .before .before .record-at .ensures) (omega arith) (c .before .before .before .entry-at .result) (c .before .before .before .entry-at .ensures) (c .before .if4 .taken))
+    c .refused4 .ensures
+    ∙ sym (shown-no-allele r name t i k right accepted (c .before .before .before .before .before .record-at .result) (c .before .before .before .before .before .record-at .ensures) (omega arith)
+    (c .before .before .before .entry-at .result) (c .before .before .before .entry-at .ensures) (c .before .if4 .taken))
 
 shown-of-requires : tie.Need-shown-of-requires
 shown-of-requires c κs =
-    let r = c .before .before .before .before .before .before .before .before .before .before .before .before .args .reference .now in
-    let name = c .before .before .before .before .before .before .before .before .before .before .before .before .args .name .now in
-    let t = c .before .before .before .before .before .before .before .before .before .before .before .before .args .text .now in
-    let i = c .before .before .before .before .before .before .before .before .before .before .before .before .args .entry in
-    let k = c .before .before .before .before .before .before .before .before .before .before .before .before .args .allele in
-    let right = sym (c .before .before .before .before .before .before .before .before .is-reference .ensures) ∙ not-false _ (c .before .before .before .before .before .before .before .if1 .left) in
+    let c8 = c .before .before .before .before .before .before .before .before in
+    let r = c8 .before .before .before .before .args .reference .now in
+    let name = c8 .before .before .before .before .args .name .now in
+    let t = c8 .before .before .before .before .args .text .now in
+    let i = c8 .before .before .before .before .args .entry in
+    let k = c8 .before .before .before .before .args .allele in
+    let right = sym (c8 .is-reference .ensures) ∙ not-false _ (c .before .before .before .before .before .before .before .if1 .left) in
     let accepted = sym (ap (λ (f : Fault). f .number) (c .before .before .before .before .before .before .judge .ensures)) ∙ c .before .before .before .before .before .if2 .left in
-    entry-pos r name t i k right accepted (c .before .before .before .before .record-at .result) (c .before .before .before .before .record-at .ensures) (omega arith) (c .before .before .entry-at .result) (c .before .before .entry-at .ensures)
+    entry-pos r name t i k right accepted (c .before .before .before .before .record-at .result) (c .before .before .before .before .record-at .ensures) (omega arith)
+    (c .before .before .entry-at .result) (c .before .before .entry-at .ensures)
 
 returns-5 : tie.Need-returns-5
 returns-5 c =
-    let r = c .before .before .before .before .before .before .before .before .before .before .before .before .before .args .reference .now in
-    let name = c .before .before .before .before .before .before .before .before .before .before .before .before .before .args .name .now in
-    let t = c .before .before .before .before .before .before .before .before .before .before .before .before .before .args .text .now in
-    let i = c .before .before .before .before .before .before .before .before .before .before .before .before .before .args .entry in
-    let k = c .before .before .before .before .before .before .before .before .before .before .before .before .before .args .allele in
-    let right = sym (c .before .before .before .before .before .before .before .before .before .is-reference .ensures) ∙ not-false _ (c .before .before .before .before .before .before .before .before .if1 .left) in
+    let c8 = c .before .before .before .before .before .before .before .before in
+    let r = c8 .before .before .before .before .before .args .reference .now in
+    let name = c8 .before .before .before .before .before .args .name .now in
+    let t = c8 .before .before .before .before .before .args .text .now in
+    let i = c8 .before .before .before .before .before .args .entry in
+    let k = c8 .before .before .before .before .before .args .allele in
+    let right = sym (c8 .before .is-reference .ensures) ∙ not-false _ (c8 .if1 .left) in
     let accepted = sym (ap (λ (f : Fault). f .number) (c .before .before .before .before .before .before .before .judge .ensures)) ∙ c .before .before .before .before .before .before .if2 .left in
-    c .shown-of .ensures ∙ sym (shown-entry r name t i k right accepted (c .before .before .before .before .before .record-at .result) (c .before .before .before .before .before .record-at .ensures) (omega arith) (c .before .before .before .entry-at .result) (c .before .before .before .entry-at .ensures) (c .before .if4 .left))
+    c .shown-of .ensures
+    ∙ sym (shown-entry r name t i k right accepted (c .before .before .before .before .before .record-at .result) (c .before .before .before .before .before .record-at .ensures) (omega arith)
+    (c .before .before .before .entry-at .result) (c .before .before .before .entry-at .ensures) (c .before .if4 .left))
 
 pub allele-shown-spec : {M : Type 1} → statement M
 allele-shown-spec =

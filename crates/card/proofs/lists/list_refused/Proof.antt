@@ -65,12 +65,15 @@ refuse-requires-4 c κs = search needs
 
 returns-4 : tie.Need-returns-4
 returns-4 c =
-    let r = c .before .before .before .before .before .before .before .before .before .before .before .args .reference .now in
-    let name = c .before .before .before .before .before .before .before .before .before .before .before .args .name .now in
-    let t = c .before .before .before .before .before .before .before .before .before .before .before .args .text .now in
-    let small = c .before .before .before .before .before .before .before .before .before .before .before .args .small in
+    let c8 = c .before .before .before .before .before .before .before .before in
+    let r = c8 .before .before .before .args .reference .now in
+    let name = c8 .before .before .before .args .name .now in
+    let t = c8 .before .before .before .args .text .now in
+    let small = c8 .before .before .before .args .small in
     let right = sym (c .before .before .before .before .before .before .before .is-reference .ensures) ∙ not-false _ (c .before .before .before .before .before .before .if1 .left) in
-    c .refuse4 .ensures ∙ sym (ap refusedAnswer (list-fault r name t small right (c .before .before .before .before .before .if2 .left) (c .before .before .before .before .judge .result) (c .before .before .before .before .judge .ensures) (c .before .before .if3 .left)))
+    c .refuse4 .ensures ∙ sym
+    (ap refusedAnswer (list-fault r name t small right (c .before .before .before .before .before .if2 .left) (c .before .before .before .before .judge .result)
+    (c .before .before .before .before .judge .ensures) (c .before .before .if3 .left)))
 
 pub list-refused-spec : {M : Type 1} → statement M
 list-refused-spec =

@@ -53,13 +53,16 @@ refuse-requires-2 c κs = search needs
 
 returns-3 : tie.Need-returns-3
 returns-3 c =
-    let r = c .before .before .before .before .before .before .before .before .before .before .before .before .args .reference .now in
-    let name = c .before .before .before .before .before .before .before .before .before .before .before .before .args .name .now in
-    let first = c .before .before .before .before .before .before .before .before .before .before .before .before .args .first .now in
-    let second = c .before .before .before .before .before .before .before .before .before .before .before .before .args .second .now in
-    let small = c .before .before .before .before .before .before .before .before .before .before .before .before .args .small in
+    let c8 = c .before .before .before .before .before .before .before .before in
+    let r = c8 .before .before .before .before .args .reference .now in
+    let name = c8 .before .before .before .before .args .name .now in
+    let first = c8 .before .before .before .before .args .first .now in
+    let second = c8 .before .before .before .before .args .second .now in
+    let small = c8 .before .before .before .before .args .small in
     let one = sym (ap (λ (a : Answer). a .number) (c .before .before .before .before .before .before .before .list-refused .ensures)) ∙ c .before .before .before .before .before .if1 .left in
-    c .refuse2 .ensures ∙ sym (ap refusedAnswer (lists-fault r name first small second one (c .before .before .before .before .judge .result) (c .before .before .before .before .judge .ensures) (c .before .before .if2 .left)))
+    c .refuse2 .ensures ∙ sym
+    (ap refusedAnswer (lists-fault r name first small second one (c .before .before .before .before .judge .result) (c .before .before .before .before .judge .ensures)
+    (c .before .before .if2 .left)))
 
 pub lists-refused-spec : {M : Type 1} → statement M
 lists-refused-spec =

@@ -29,8 +29,9 @@ same-length c = c .before .before .before .before .before .mark-one .kept .1 .1 
 
 returns-2 : tie.Need-returns-2
 returns-2 c =
+    let c8 = c .before .before .before .before .before .before .before .before in
     let told = c .before .before .before .before .before .mark-one .ensures in
-    let same = not-false (c .before .before .before .before .before .before .before .before .before .before .before .before .args .same) (c .before .before .before .before .before .before .before .if1 .left) in
+    let same = not-false (c8 .before .before .before .before .args .same) (c .before .before .before .before .before .before .before .if1 .left) in
     let none = not-true (c .before .before .before .before .before .mark-one .result .found) (c .before .if2 .taken) in
     (c .refuse2 .ensures ∙ rw (← told .0, same, none), told .1 ∙ rw same)
 
@@ -42,8 +43,9 @@ same-length-2 c = c .before .before .before .before .before .before .before .mar
 
 returns-3 : tie.Need-returns-3
 returns-3 c =
+    let c8 = c .before .before .before .before .before .before .before .before in
     let told = c .before .before .before .before .before .before .before .mark-one .ensures in
-    let same = not-false (c .before .before .before .before .before .before .before .before .before .before .before .before .before .before .args .same) (c .before .before .before .before .before .before .before .before .before .if1 .left) in
+    let same = not-false (c8 .before .before .before .before .before .before .args .same) (c8 .before .if1 .left) in
     let found = not-false (c .before .before .before .before .before .before .before .mark-one .result .found) (c .before .before .before .if2 .left) in
     let undecided = not-true (c .before .before .before .before .before .before .before .mark-one .result .decided) (c .before .if3 .taken) in
     (c .give .ensures ∙ rw (← told .0, same, found, undecided), told .1 ∙ rw same)
@@ -62,10 +64,11 @@ same-length-3 c = c .before .before .before .before .before .before .before .bef
 
 returns-4 : tie.Need-returns-4
 returns-4 c =
-    let told = c .before .before .before .before .before .before .before .before .mark-one .ensures in
-    let same = not-false (c .before .before .before .before .before .before .before .before .before .before .before .before .before .before .before .args .same) (c .before .before .before .before .before .before .before .before .before .before .if1 .left) in
-    let found = not-false (c .before .before .before .before .before .before .before .before .mark-one .result .found) (c .before .before .before .before .if2 .left) in
-    let decided = not-false (c .before .before .before .before .before .before .before .before .mark-one .result .decided) (c .before .before .if3 .left) in
+    let c8 = c .before .before .before .before .before .before .before .before in
+    let told = c8 .mark-one .ensures in
+    let same = not-false (c8 .before .before .before .before .before .before .before .args .same) (c8 .before .before .if1 .left) in
+    let found = not-false (c8 .mark-one .result .found) (c .before .before .before .before .if2 .left) in
+    let decided = not-false (c8 .mark-one .result .decided) (c .before .before .if3 .left) in
     (c .give2 .ensures ∙ rw (← told .0, same, found, decided), told .1 ∙ rw same)
 
 pub mark-planned-spec : {M : Type 1} → statement M

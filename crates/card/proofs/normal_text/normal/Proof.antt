@@ -60,14 +60,16 @@ give-requires c κs = search needs
 
 same-length : tie.Need-same-length
 same-length c =
-    let a = c .before .before .before .before .before .before .before .before .before .before .before .before .args in
+    let c8 = c .before .before .before .before .before .before .before .before in
+    let a = c8 .before .before .before .before .args in
     let r = a .reference .now in
     let name = a .name .now in
     let t = a .text .now in
     let d = a .out .now in
     let z = sym (ap (λ (x : Answer). x .number) (c .before .before .before .before .before .before .before .list-refused .ensures)) ∙ c .before .before .before .before .before .if1 .left in
     let read = list-read r name t (ltb (length d) (length t)) z in
-    ap length (c .before .before .before .write-list .ensures .1) ∙ put-length d 0 (omega arith) (writtenText r t) (omega (arith, written-not-longer r name (of-true (read .right)) t (read .accepted), ltb-false (length d) (length t) (read .roomy)))
+    ap length (c .before .before .before .write-list .ensures .1)
+    ∙ put-length d 0 (omega arith) (writtenText r t) (omega (arith, written-not-longer r name (of-true (read .right)) t (read .accepted), ltb-false (length d) (length t) (read .roomy)))
 
 returns-2 : tie.Need-returns-2
 returns-2 c =

@@ -23,7 +23,8 @@ use contract.Lifetimes.{Lfts, Shares, toks}
 use contract.Monad.{Fun, factI}
 use contract.Running.{givenOf, tables, tablesOf}
 use types.Kit.{Given, Item, ‵, raw, _⊛_, ⋆, runs, atRet, Sq, _$_, _∵_, !, qed, by, move, keep, drop, use1, use2, split, fjoin, suffices, frame, done}
-use types.Run.{look, init, store, stop, hop, fld, from, load, addr, lit, of-opd, bin, un, and-then, no-more, assigns, land, first, skips, branches, returns, returns-within, enter, alloc1, alloc0, params1, pass1, pass0, exec}
+use types.Run.{look, init, store, stop, hop, fld, from, load, addr, lit, of-opd, bin, un, and-then, no-more, assigns, land, first, skips, branches, returns, returns-within, enter, alloc1, alloc0}
+use types.Run.{params1, pass1, pass0, exec}
 use types.Part.{agg, whole, sub, look-in}
 use sound.WpLaws.{fmOf, WpFn-mono}
 use denote.Builtin.{u8}
@@ -89,8 +90,10 @@ module _ {M : Type 1} (𝓤 : URA M) (H : Heap 𝓤) (A : Atoms 𝓤) (mem : Mem
   abbrev Give : Contract 𝓤
   Give = tripleOf 𝓤 H A give.signature (give.spec 𝓤 H A mem run)
 
-module _ {M : Type 1} (𝓤 : URA M) (H : Heap 𝓤) (A : Atoms 𝓤) (W : Given 𝓤 H A) (mem : Memory → SProp 𝓤) (run : Routine → Fun 𝓤) (κs : Lfts 4) (κ : Lft) (qs : Shares 4) (q : Share) (xs : Refs) (x : RefT (List Cluster))
-    (g₁ : Room u8 (length (xs .0 .now))) (g₂ : Room u8 (length (xs .1 .0 .now))) (g₃ : Room u8 (length (xs .1 .1 .0 .now))) (g₄ : Room u8 (length (xs .1 .1 .1 .0 .now))) (gy : Room R (length (x .now))) where
+module _ {M : Type 1} (𝓤 : URA M) (H : Heap 𝓤) (A : Atoms 𝓤) (W : Given 𝓤 H A) (mem : Memory → SProp 𝓤) (run : Routine → Fun 𝓤) (κs : Lfts 4) (κ : Lft) (qs : Shares 4) (q : Share) (xs : Refs)
+    (x : RefT (List Cluster))
+    (g₁ : Room u8 (length (xs .0 .now))) (g₂ : Room u8 (length (xs .1 .0 .now))) (g₃ : Room u8 (length (xs .1 .1 .0 .now))) (g₄ : Room u8 (length (xs .1 .1 .1 .0 .now)))
+    (gy : Room R (length (x .now))) where
   abbrev ys : List Cluster
   ys = x .now
 
@@ -126,21 +129,27 @@ module _ {M : Type 1} (𝓤 : URA M) (H : Heap 𝓤) (A : Atoms 𝓤) (W : Given
 
   module _ (𝓣 : Tables 𝓤 H) (l₀ l₁ l₂ l₃ l₄ l₅ l₆ l₇ l₈ l₉ l₁₀ l₁₁ l₁₂ : ℕ) where
     abbrev En : Env 𝓤 H
-    En = (Answer″.mir, l₀) ∷ (text 0, l₁) ∷ (text 1, l₂) ∷ (text 2, l₃) ∷ (text 3, l₄) ∷ (records, l₅) ∷ (Answer″.mir, l₆) ∷ (word, l₇) ∷ (word, l₈) ∷ (tyBool, l₉) ∷ (lender, l₁₀) ∷ (sliceTy lender, l₁₁) ∷ (tyInt w32, l₁₂) ∷ []
+    En = (Answer″.mir, l₀) ∷ (text 0, l₁) ∷ (text 1, l₂) ∷ (text 2, l₃) ∷ (text 3, l₄) ∷ (records, l₅) ∷ (Answer″.mir, l₆) ∷ (word, l₇) ∷ (word, l₈) ∷ (tyBool, l₉) ∷ (lender, l₁₀)
+        ∷ (sliceTy lender, l₁₁) ∷ (tyInt w32, l₁₂) ∷ []
 
     -- the texts' tokens; the texts; the records' token; the records; the locals, each with what frees it. The test, the length and what is said of the lists are given
     abbrev With : Item 𝓤 → Item 𝓤 → Item 𝓤 → List (Item 𝓤)
     With t n r = raw (toks 𝓤 A 4 κs qs) ∷ ‵ (texts κs xs) ∷ ‵ (flft κ q) ∷ ‵ (Lent .own x (slice-vals x))
-        ∷ ‵ (froom (tyInt w32) l₁₂ 0) ∷ ‵ (fdies (tyInt w32) l₁₂) ∷ ‵ (froom (sliceTy lender) l₁₁ 0) ∷ ‵ (fdies (sliceTy lender) l₁₁) ∷ ‵ (froom lender l₁₀ 0) ∷ ‵ (fdies lender l₁₀) ∷ t ∷ ‵ (fdies tyBool l₉)
+        ∷ ‵ (froom (tyInt w32) l₁₂ 0) ∷ ‵ (fdies (tyInt w32) l₁₂) ∷ ‵ (froom (sliceTy lender) l₁₁ 0) ∷ ‵ (fdies (sliceTy lender) l₁₁) ∷ ‵ (froom lender l₁₀ 0) ∷ ‵ (fdies lender l₁₀) ∷ t
+        ∷ ‵ (fdies tyBool l₉)
         ∷ n ∷ ‵ (fdies word l₈) ∷ ‵ (froom word l₇ 0) ∷ ‵ (fdies word l₇) ∷ r ∷ ‵ (fdies Answer″.mir l₆)
-        ∷ ‵ (fat fullShare records l₅ 0 (only (slice-vals x))) ∷ ‵ (fdies records l₅) ∷ ‵ (fat fullShare (text 3) l₄ 0 (only (vals xs .1 .1 .1 .0))) ∷ ‵ (fdies (text 3) l₄) ∷ ‵ (fat fullShare (text 2) l₃ 0 (only (vals xs .1 .1 .0))) ∷ ‵ (fdies (text 2) l₃)
-        ∷ ‵ (fat fullShare (text 1) l₂ 0 (only (vals xs .1 .0))) ∷ ‵ (fdies (text 1) l₂) ∷ ‵ (fat fullShare (text 0) l₁ 0 (only (vals xs .0))) ∷ ‵ (fdies (text 0) l₁) ∷ ‵ (froom Answer″.mir l₀ 0) ∷ ‵ (fdies Answer″.mir l₀) ∷ []
+        ∷ ‵ (fat fullShare records l₅ 0 (only (slice-vals x))) ∷ ‵ (fdies records l₅) ∷ ‵ (fat fullShare (text 3) l₄ 0 (only (vals xs .1 .1 .1 .0))) ∷ ‵ (fdies (text 3) l₄)
+        ∷ ‵ (fat fullShare (text 2) l₃ 0 (only (vals xs .1 .1 .0))) ∷ ‵ (fdies (text 2) l₃)
+        ∷ ‵ (fat fullShare (text 1) l₂ 0 (only (vals xs .1 .0))) ∷ ‵ (fdies (text 1) l₂) ∷ ‵ (fat fullShare (text 0) l₁ 0 (only (vals xs .0))) ∷ ‵ (fdies (text 0) l₁) ∷ ‵ (froom Answer″.mir l₀ 0)
+        ∷ ‵ (fdies Answer″.mir l₀) ∷ []
 
     abbrev Judged : List (Item 𝓤)
-    Judged = With (‵ (fat fullShare tyBool l₉ 0 (vbool (not (eqb (refused .number) 0))))) (‵ (fat fullShare word l₈ 0 (vint w64 (length ys)))) (‵ (fat fullShare Answer″.mir l₆ 0 (Answer″.lowered refused)))
+    Judged = With (‵ (fat fullShare tyBool l₉ 0 (vbool (not (eqb (refused .number) 0))))) (‵ (fat fullShare word l₈ 0 (vint w64 (length ys))))
+        (‵ (fat fullShare Answer″.mir l₆ 0 (Answer″.lowered refused)))
 
     -- the lists are read: the records are passed on
-    given : Triple 𝓤 (𝓣 .C fill-plan-def.name) (Fill 𝓤 H A mem run) → Triple 𝓤 (𝓣 .C give-def.name) (Give 𝓤 H A mem run) → refused .number ≡ 0 → Sq W Judged (runs (𝓣 .C) (𝓣 .Λ) En cm.t-6 (atRet En Post))
+    given : Triple 𝓤 (𝓣 .C fill-plan-def.name) (Fill 𝓤 H A mem run) → Triple 𝓤 (𝓣 .C give-def.name) (Give 𝓤 H A mem run) → refused .number ≡ 0
+        → Sq W Judged (runs (𝓣 .C) (𝓣 .Λ) En cm.t-6 (atRet En Post))
     given known-fill known-give z =
         let can = lists-answerable (xs .0 .now) (xs .1 .0 .now) (xs .1 .1 .0 .now) (xs .1 .1 .1 .0 .now) small z in
         let roomy : leastRoom ≤ length ys = ltb-false (length ys) leastRoom (can .1) in
@@ -148,12 +157,14 @@ module _ {M : Type 1} (𝓤 : URA M) (H : Heap 𝓤) (A : Atoms 𝓤) (W : Given
         let fits : length P < 2 ^ 32 = omega (arith, can .0 .clusters) in
         let says-so = plan-given (xs .0 .now) (xs .1 .0 .now) (xs .1 .1 .0 .now) (xs .1 .1 .1 .0 .now) ys z in
         assigns ! (addr ! (from ! (fld ! refl (hop ! (look-in ! 18 (sub ! 0 refl (whole !))) (stop !))))) (from ! (stop !)) (init ! 8 refl (tt, tt)) $
-        assigns ! (agg ! (and-then ! (local ! 8 refl) (and-then ! (load ! (from ! (fld ! refl (stop !))) (look-in ! 18 (sub ! 1 refl (whole !)))) (no-more !)))) (from ! (stop !)) (init ! 6 refl (tt, (tt, (record { fits = gy .0 }, tt)))) $
+        assigns ! (agg ! (and-then ! (local ! 8 refl) (and-then ! (load ! (from ! (fld ! refl (stop !))) (look-in ! 18 (sub ! 1 refl (whole !)))) (no-more !)))) (from ! (stop !))
+        (init ! 6 refl (tt, (tt, (record { fits = gy .0 }, tt)))) $
         fills 𝓤 H A W κs qs xs 𝓣 ! R κ q x (fill-plan.clauses 𝓤 H A mem run) known-fill tt (factI 𝓤 _ (emp 𝓤) (can .0 .ready, within)) (length P) (put ys 0 P) (λ r l. refl)
         (and-then ! (local ! 25 refl) (and-then ! (local ! 21 refl) (and-then ! (local ! 19 refl) (and-then ! (local ! 5 refl) (no-more !))))) (λ big.
         land ! (from ! (stop !)) (init ! 14 refl (tt, record { fits = big })) $
         assigns ! (un ! (local ! 14 refl) (record { fits = fits })) (from ! (stop !)) (init ! 4 refl (tt, record { fits = fits })) $
-        tells-values ! (fmOf 𝓤 H (W .laws) 𝓣) give.ended (give.clauses 𝓤 H A mem run) known-give ((tt, tt, tt, (length P, tt), (vint w32 (length P) ∷ [], tt)), tt) (id⊢ 𝓤 (emp 𝓤)) (id⊢ 𝓤 (emp 𝓤)) (uint-makes 𝓤 H A W w32, tt) ((refl, fits), tt)
+        tells-values ! (fmOf 𝓤 H (W .laws) 𝓣) give.ended (give.clauses 𝓤 H A mem run) known-give ((tt, tt, tt, (length P, tt), (vint w32 (length P) ∷ [], tt)), tt) (id⊢ 𝓤 (emp 𝓤)) (id⊢ 𝓤 (emp 𝓤))
+        (uint-makes 𝓤 H A W w32, tt) ((refl, fits), tt)
         Answer″.lowered (Answer″.lowers .val-is) (answer 0 0 0 (length P)) (λ r ws. refl) (and-then ! (local ! 5 refl) (no-more !)) (λ good.
         land ! (from ! (stop !)) (init ! 28 refl (LL.lawful Answer′.the-type Answer″.the-laws 𝓤 H A W .typed (answer 0 0 0 (length P)) _ good .0)) $
         returns ! (look ! 28 refl) $ move ! (28 ∷ 29 ∷ 26 ∷ 27 ∷ 24 ∷ 25 ∷ 22 ∷ 23 ∷ 20 ∷ 21 ∷ 18 ∷ 19 ∷ 16 ∷ 17 ∷ 14 ∷ 15 ∷ 12 ∷ 13 ∷ 10 ∷ 11 ∷ 8 ∷ 9 ∷ 6 ∷ 7 ∷ 4 ∷ 5 ∷ []) $
@@ -172,32 +183,49 @@ module _ {M : Type 1} (𝓤 : URA M) (H : Heap 𝓤) (A : Atoms 𝓤) (W : Given
         first ! $ branches ! (local ! 10 refl) (λ taken.
         assigns ! (of-opd ! (local ! 16 refl)) (from ! (stop !)) (init ! 28 refl fine) $
         returns-within ! Post refl (look ! 28 refl) $ move ! (28 ∷ 29 ∷ 26 ∷ 27 ∷ 24 ∷ 25 ∷ 22 ∷ 23 ∷ 20 ∷ 21 ∷ 18 ∷ 19 ∷ 16 ∷ 17 ∷ 14 ∷ 15 ∷ 12 ∷ 13 ∷ 10 ∷ 11 ∷ 8 ∷ 9 ∷ 6 ∷ 7 ∷ 4 ∷ 5 ∷ []) $
-        leaves ! En (held _ ∷ held _ ∷ held _ ∷ held _ ∷ held _ ∷ held _ ∷ held _ ∷ empty ∷ held _ ∷ held _ ∷ []) $ move ! (3 ∷ []) $ use1 W (‵ (Ends R x ys)) (gives-up 𝓤 H A W (named 4) κ R x (slice-vals x)) $
+        leaves ! En (held _ ∷ held _ ∷ held _ ∷ held _ ∷ held _ ∷ held _ ∷ held _ ∷ empty ∷ held _ ∷ held _ ∷ []) $ move ! (3 ∷ []) $
+        use1 W (‵ (Ends R x ys)) (gives-up 𝓤 H A W (named 4) κ R x (slice-vals x)) $
         move ! (1 ∷ 3 ∷ 0 ∷ []) $ keep ! (0 ∷ 1 ∷ 2 ∷ []) $
-        by ! (let says-so = plan-refused (xs .0 .now) (xs .1 .0 .now) (xs .1 .1 .0 .now) (xs .1 .1 .1 .0 .now) ys (turned-away (refused .number) taken) in exits refused ys good (sym (says-so .0)) (sym (says-so .1))))
+        by ! (let says-so = plan-refused (xs .0 .now) (xs .1 .0 .now) (xs .1 .1 .0 .now) (xs .1 .1 .1 .0 .now) ys (turned-away (refused .number) taken) in exits refused ys good (sym (says-so .0))
+        (sym (says-so .1))))
         (λ left. skips ! $ exec ! (𝓣 .C) (𝓣 .Λ) En cm.t-6 (atRet En Post) $ given known-fill known-give (read (refused .number) left)))
 
-  walk : (𝓣 : Tables 𝓤 H) → Triple 𝓤 (𝓣 .C lists-refused-def.name) (Refused 𝓤 H A mem run) → Triple 𝓤 (𝓣 .C fill-plan-def.name) (Fill 𝓤 H A mem run) → Triple 𝓤 (𝓣 .C give-def.name) (Give 𝓤 H A mem run)
-      → ent 𝓤 (onEntry 𝓤 H A plan.signature (passed .0 .0) (passed .0 .1) (passed .0 .3) (passed .0 .4)) (WpFn 𝓤 H (𝓣 .C) (𝓣 .Λ) code.function (walkOf 𝓤 H A plan.ended stayed (plan.clauses 𝓤 H A mem run) .args passed) Post)
+  walk : (𝓣 : Tables 𝓤 H) → Triple 𝓤 (𝓣 .C lists-refused-def.name) (Refused 𝓤 H A mem run) → Triple 𝓤 (𝓣 .C fill-plan-def.name) (Fill 𝓤 H A mem run)
+      → Triple 𝓤 (𝓣 .C give-def.name) (Give 𝓤 H A mem run)
+      → ent 𝓤 (onEntry 𝓤 H A plan.signature (passed .0 .0) (passed .0 .1) (passed .0 .3) (passed .0 .4))
+      (WpFn 𝓤 H (𝓣 .C) (𝓣 .Λ) code.function (walkOf 𝓤 H A plan.ended stayed (plan.clauses 𝓤 H A mem run) .args passed) Post)
   walk 𝓣 known-refused known-fill known-give =
       qed W (raw (toks 𝓤 A 5 (lastLft 4 κs κ) (lastShare 4 qs q)) ∷ ‵ (owns (Texts κs ++ (Lent ∷ [])) (passed .0 .3) (passed .0 .4)) ∷ []) ∵
-      use1 W (raw (toks 𝓤 A 4 κs qs) ⊛ ‵ (flft κ q)) (token-out 𝓤 H A W κ q 4 κs qs) $ split ! $ move ! (2 ∷ []) $ use1 W (‵ (texts κs xs) ⊛ ‵ (Lent .own x (slice-vals x))) (last-out 𝓤 H A W Lent x (slice-vals x) (Texts κs) xs (vals xs)) $ split ! $
+      use1 W (raw (toks 𝓤 A 4 κs qs) ⊛ ‵ (flft κ q)) (token-out 𝓤 H A W κ q 4 κs qs) $ split ! $ move ! (2 ∷ []) $
+      use1 W (‵ (texts κs xs) ⊛ ‵ (Lent .own x (slice-vals x))) (last-out 𝓤 H A W Lent x (slice-vals x) (Texts κs) xs (vals xs)) $ split ! $
       -- [the texts; the records; the texts' tokens; the records' token]
       enter ! (𝓣 .C) (𝓣 .Λ) code.function _ _ $
-      alloc1 ! (λ l₀. alloc1 ! (λ l₁. alloc1 ! (λ l₂. alloc1 ! (λ l₃. alloc1 ! (λ l₄. alloc1 ! (λ l₅. alloc1 ! (λ l₆. alloc1 ! (λ l₇. alloc1 ! (λ l₈. alloc1 ! (λ l₉. alloc1 ! (λ l₁₀. alloc1 ! (λ l₁₁. alloc1 ! (λ l₁₂. alloc0 ! $ params1 ! $
+      alloc1 ! (λ l₀. alloc1 !
+      (λ l₁. alloc1 ! (λ l₂. alloc1 !
+      (λ l₃. alloc1 ! (λ l₄. alloc1 ! (λ l₅. alloc1 ! (λ l₆. alloc1 ! (λ l₇. alloc1 ! (λ l₈. alloc1 ! (λ l₉. alloc1 ! (λ l₁₀. alloc1 ! (λ l₁₁. alloc1 ! (λ l₁₂. alloc0 ! $ params1 ! $
       -- [_12; …; _0; …; the texts; the records; the texts' tokens; the records' token]
-      pass1 ! (init ! 22 refl (tt, (tt, (record { fits = g₁ .0 }, tt)))) $ pass1 ! (init ! 20 refl (tt, (tt, (record { fits = g₂ .0 }, tt)))) $ pass1 ! (init ! 18 refl (tt, (tt, (record { fits = g₃ .0 }, tt)))) $ pass1 ! (init ! 16 refl (tt, (tt, (record { fits = g₄ .0 }, tt)))) $ pass1 ! (init ! 14 refl (tt, (tt, (record { fits = gy .0 }, tt)))) $ pass0 ! $
+      pass1 ! (init ! 22 refl (tt, (tt, (record { fits = g₁ .0 }, tt)))) $ pass1 ! (init ! 20 refl (tt, (tt, (record { fits = g₂ .0 }, tt)))) $
+      pass1 ! (init ! 18 refl (tt, (tt, (record { fits = g₃ .0 }, tt)))) $ pass1 ! (init ! 16 refl (tt, (tt, (record { fits = g₄ .0 }, tt)))) $
+      pass1 ! (init ! 14 refl (tt, (tt, (record { fits = gy .0 }, tt)))) $ pass0 ! $
       move ! (28 ∷ 26 ∷ 29 ∷ 27 ∷ []) $ starts 𝓣 l₀ l₁ l₂ l₃ l₄ l₅ l₆ l₇ l₈ l₉ l₁₀ l₁₁ l₁₂ known-refused known-fill known-give)))))))))))))
 
 module _ {M : Type 1} (𝓤 : URA M) (H : Heap 𝓤) (A : Atoms 𝓤) (W : Given 𝓤 H A) (mem : Memory → SProp 𝓤) (run : Routine → Fun 𝓤) (𝓣 : Tables 𝓤 H)
-    (known-refused : Triple 𝓤 (𝓣 .C lists-refused-def.name) (Refused 𝓤 H A mem run)) (known-fill : Triple 𝓤 (𝓣 .C fill-plan-def.name) (Fill 𝓤 H A mem run)) (known-give : Triple 𝓤 (𝓣 .C give-def.name) (Give 𝓤 H A mem run)) where
+    (known-refused : Triple 𝓤 (𝓣 .C lists-refused-def.name) (Refused 𝓤 H A mem run)) (known-fill : Triple 𝓤 (𝓣 .C fill-plan-def.name) (Fill 𝓤 H A mem run))
+    (known-give : Triple 𝓤 (𝓣 .C give-def.name) (Give 𝓤 H A mem run)) where
   plan-walks : Walks 𝓤 H A plan.ended stayed (WpFn 𝓤 H (𝓣 .C) (𝓣 .Λ) code.function) (plan.clauses 𝓤 H A mem run)
   plan-walks =
       walked 𝓤 H A plan.ended stayed (plan.clauses 𝓤 H A mem run) (WpFn 𝓤 H (𝓣 .C) (𝓣 .Λ) code.function) (λ κs. (slice-vals, (slice-vals, (slice-vals, (slice-vals, (slice-vals, tt))))))
-      (λ κs. (shr-slice-tells (named 0) (κs .0) u8, (shr-slice-tells (named 1) (κs .1 .0) u8, (shr-slice-tells (named 2) (κs .1 .1 .0) u8, (shr-slice-tells (named 3) (κs .1 .1 .1 .0) u8, (mut-slice-tells (named 4) (κs .1 .1 .1 .1 .0) R, tt))))))
+      (λ κs. (
+        shr-slice-tells (named 0) (κs .0) u8,
+        (
+          shr-slice-tells (named 1) (κs .1 .0) u8,
+          (shr-slice-tells (named 2) (κs .1 .1 .0) u8, (shr-slice-tells (named 3) (κs .1 .1 .1 .0) u8, (mut-slice-tells (named 4) (κs .1 .1 .1 .1 .0) R, tt))),
+        ),
+      ))
       (λ κs qs bounds a g are. via 𝓤 _ (fst∗ 𝓤 _ (emp 𝓤))
       (walk 𝓤 H A W mem run (κs .0, (κs .1 .0, (κs .1 .1 .0, (κs .1 .1 .1 .0, tt)))) (κs .1 .1 .1 .1 .0) (qs .0, (qs .1 .0, (qs .1 .1 .0, (qs .1 .1 .1 .0, tt)))) (qs .1 .1 .1 .1 .0)
-      (a .0, (a .1 .0, (a .1 .1 .0, (a .1 .1 .1 .0, tt)))) (a .1 .1 .1 .1 .0) (are .0 .0 .1) (are .1 .0 .0 .1) (are .1 .1 .0 .0 .1) (are .1 .1 .1 .0 .0 .1) (are .1 .1 .1 .1 .0 .0 .1) 𝓣 known-refused known-fill known-give))
+      (a .0, (a .1 .0, (a .1 .1 .0, (a .1 .1 .1 .0, tt)))) (a .1 .1 .1 .1 .0) (are .0 .0 .1) (are .1 .0 .0 .1) (are .1 .1 .0 .0 .1) (are .1 .1 .1 .0 .0 .1) (are .1 .1 .1 .1 .0 .0 .1) 𝓣 known-refused
+      known-fill known-give))
 
   plan-meets : Meets 𝓤 H A plan.signature (WpFn 𝓤 H (𝓣 .C) (𝓣 .Λ) code.function) (plan.spec 𝓤 H A mem run)
   plan-meets =

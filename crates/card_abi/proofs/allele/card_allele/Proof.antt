@@ -44,7 +44,8 @@ cast-t13 c =
 returns-2 : tie.Need-returns-2
 returns-2 c =
     let s = c .before .before .before .before .before .before .before .allele-shown .result in
-    rw (← c .before .before .before .before .before .before .before .allele-shown .ensures, answer-there s (c .before .before .before .before .if1 .left)) (⊎-elim (λ w. rw (w .1, w .0 .taken)) (λ w. rw (w .1, w .0 .left)) (c .before .before .if2 .came))
+    rw (← c .before .before .before .before .before .before .before .allele-shown .ensures, answer-there s (c .before .before .before .before .if1 .left))
+    (⊎-elim (λ w. rw (w .1, w .0 .taken)) (λ w. rw (w .1, w .0 .left)) (c .before .before .if2 .came))
 
 pub card-allele-spec : {M : Type 1} → statement M
 card-allele-spec = tie.close (tie.spec allele-shown-requires refuse-requires returns cast-t12 cast-t13 returns-2)

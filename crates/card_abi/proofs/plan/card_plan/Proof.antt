@@ -54,7 +54,8 @@ abbrev Plan : {M : Type 1} (𝓤 : URA M) (H : Heap 𝓤) (A : Atoms 𝓤) (mem 
 Plan 𝓤 H A mem run = tripleOf 𝓤 H A plan.signature (plan.spec 𝓤 H A mem run)
 
 module _ {M : Type 1} (𝓤 : URA M) (H : Heap 𝓤) (A : Atoms 𝓤) (W : Given 𝓤 H A) (mem : Memory → SProp 𝓤) (run : Routine → Fun 𝓤) (κs : Lfts 5) (qs : Shares 5) (a : Args card-plan.signature κs)
-    (g₁ : Room u8 (length (a .0 .now))) (g₂ : Room u8 (length (a .1 .0 .now))) (g₃ : Room u8 (length (a .1 .1 .0 .now))) (g₄ : Room u8 (length (a .1 .1 .1 .0 .now))) (gy : Room R (length (a .1 .1 .1 .1 .0 .now))) where
+    (g₁ : Room u8 (length (a .0 .now))) (g₂ : Room u8 (length (a .1 .0 .now))) (g₃ : Room u8 (length (a .1 .1 .0 .now))) (g₄ : Room u8 (length (a .1 .1 .1 .0 .now)))
+    (gy : Room R (length (a .1 .1 .1 .1 .0 .now))) where
   abbrev vals : Vals card-plan.signature κs
   vals = (slice-vals (a .0), (slice-vals (a .1 .0), (slice-vals (a .1 .1 .0), (slice-vals (a .1 .1 .1 .0), (slice-vals (a .1 .1 .1 .1 .0), tt)))))
 
@@ -81,23 +82,34 @@ module _ {M : Type 1} (𝓤 : URA M) (H : Heap 𝓤) (A : Atoms 𝓤) (W : Given
   walk 𝓣 known =
       qed W (raw (toks 𝓤 A 5 κs qs) ∷ ‵ (owns (typesAt (card-plan.signature .params) κs) a vals) ∷ []) ∵ enter ! (𝓣 .C) (𝓣 .Λ) code.function _ _ $
       alloc1 ! (λ l₀. alloc1 ! (λ l₁. alloc1 ! (λ l₂. alloc1 ! (λ l₃. alloc1 ! (λ l₄. alloc1 ! (λ l₅. alloc1 ! (λ l₆. alloc1 ! (λ l₇. alloc0 ! $ params1 ! $
-      pass1 ! (init ! 12 refl (tt, (tt, (record { fits = g₁ .0 }, tt)))) $ pass1 ! (init ! 10 refl (tt, (tt, (record { fits = g₂ .0 }, tt)))) $ pass1 ! (init ! 8 refl (tt, (tt, (record { fits = g₃ .0 }, tt)))) $ pass1 ! (init ! 6 refl (tt, (tt, (record { fits = g₄ .0 }, tt)))) $ pass1 ! (init ! 4 refl (tt, (tt, (record { fits = gy .0 }, tt)))) $ pass0 ! $
+      pass1 ! (init ! 12 refl (tt, (tt, (record { fits = g₁ .0 }, tt)))) $ pass1 ! (init ! 10 refl (tt, (tt, (record { fits = g₂ .0 }, tt)))) $
+      pass1 ! (init ! 8 refl (tt, (tt, (record { fits = g₃ .0 }, tt)))) $ pass1 ! (init ! 6 refl (tt, (tt, (record { fits = g₄ .0 }, tt)))) $
+      pass1 ! (init ! 4 refl (tt, (tt, (record { fits = gy .0 }, tt)))) $ pass0 ! $
       move ! (16 ∷ 17 ∷ []) $
       -- [the tokens; what is passed; _7; …; _0; …]
       assigns ! (addr ! (from ! (fld ! refl (hop ! (look-in ! 6 (sub ! 0 refl (whole !))) (stop !))))) (from ! (stop !)) (init ! 4 refl (tt, tt)) $
-      assigns ! (agg ! (and-then ! (local ! 4 refl) (and-then ! (load ! (from ! (fld ! refl (stop !))) (look-in ! 6 (sub ! 1 refl (whole !)))) (no-more !)))) (from ! (stop !)) (init ! 2 refl (tt, (tt, (record { fits = gy .0 }, tt)))) $
+      assigns ! (agg ! (and-then ! (local ! 4 refl) (and-then ! (load ! (from ! (fld ! refl (stop !))) (look-in ! 6 (sub ! 1 refl (whole !)))) (no-more !)))) (from ! (stop !))
+      (init ! 2 refl (tt, (tt, (record { fits = gy .0 }, tt)))) $
       asks-lent ! (fmOf 𝓤 H (W .laws) 𝓣) plan.ended (plan.clauses 𝓤 H A mem run) known passed (id⊢ 𝓤 (emp 𝓤)) Said (λ r ws. refl)
       (and-then ! (local ! 13 refl) (and-then ! (local ! 11 refl) (and-then ! (local ! 9 refl) (and-then ! (local ! 7 refl) (and-then ! (local ! 1 refl) (no-more !)))))) (λ r v is ws e.
       land ! (from ! (stop !)) (init ! 16 refl (LL.lawful Answer′.the-type Answer″.the-laws 𝓤 H A W .typed r _ is .0)) $
       returns ! (look ! 16 refl) $ move ! (16 ∷ 17 ∷ 14 ∷ 15 ∷ 12 ∷ 13 ∷ 10 ∷ 11 ∷ 8 ∷ 9 ∷ 6 ∷ 7 ∷ 4 ∷ 5 ∷ 2 ∷ 3 ∷ []) $
       gone1 ! $ gone1 ! $ gone1 ! $ gone1 ! $ gone1 ! $ gone1 ! $ gone1 ! $ gone1 ! $ free0 ! $ by ! (exits r v ws is e))))))))))
 
-module _ {M : Type 1} (𝓤 : URA M) (H : Heap 𝓤) (A : Atoms 𝓤) (W : Given 𝓤 H A) (mem : Memory → SProp 𝓤) (run : Routine → Fun 𝓤) (𝓣 : Tables 𝓤 H) (known : Triple 𝓤 (𝓣 .C plan-def.name) (Plan 𝓤 H A mem run)) where
+module _ {M : Type 1} (𝓤 : URA M) (H : Heap 𝓤) (A : Atoms 𝓤) (W : Given 𝓤 H A) (mem : Memory → SProp 𝓤) (run : Routine → Fun 𝓤) (𝓣 : Tables 𝓤 H)
+    (known : Triple 𝓤 (𝓣 .C plan-def.name) (Plan 𝓤 H A mem run)) where
   card-plan-walks : Walks 𝓤 H A card-plan.ended stayed (WpFn 𝓤 H (𝓣 .C) (𝓣 .Λ) code.function) (card-plan.clauses 𝓤 H A mem run)
   card-plan-walks =
       walked 𝓤 H A card-plan.ended stayed (card-plan.clauses 𝓤 H A mem run) (WpFn 𝓤 H (𝓣 .C) (𝓣 .Λ) code.function) (λ κs. (slice-vals, (slice-vals, (slice-vals, (slice-vals, (slice-vals, tt))))))
-      (λ κs. (shr-slice-tells (named 0) (κs .0) u8, (shr-slice-tells (named 1) (κs .1 .0) u8, (shr-slice-tells (named 2) (κs .1 .1 .0) u8, (shr-slice-tells (named 3) (κs .1 .1 .1 .0) u8, (mut-slice-tells (named 4) (κs .1 .1 .1 .1 .0) R, tt))))))
-      (λ κs qs bounds a g are. via 𝓤 _ (fst∗ 𝓤 _ (emp 𝓤)) (walk 𝓤 H A W mem run κs qs a (are .0 .0 .1) (are .1 .0 .0 .1) (are .1 .1 .0 .0 .1) (are .1 .1 .1 .0 .0 .1) (are .1 .1 .1 .1 .0 .0 .1) 𝓣 known))
+      (λ κs. (
+        shr-slice-tells (named 0) (κs .0) u8,
+        (
+          shr-slice-tells (named 1) (κs .1 .0) u8,
+          (shr-slice-tells (named 2) (κs .1 .1 .0) u8, (shr-slice-tells (named 3) (κs .1 .1 .1 .0) u8, (mut-slice-tells (named 4) (κs .1 .1 .1 .1 .0) R, tt))),
+        ),
+      ))
+      (λ κs qs bounds a g are. via 𝓤 _ (fst∗ 𝓤 _ (emp 𝓤))
+      (walk 𝓤 H A W mem run κs qs a (are .0 .0 .1) (are .1 .0 .0 .1) (are .1 .1 .0 .0 .1) (are .1 .1 .1 .0 .0 .1) (are .1 .1 .1 .1 .0 .0 .1) 𝓣 known))
 
   card-plan-meets : Meets 𝓤 H A card-plan.signature (WpFn 𝓤 H (𝓣 .C) (𝓣 .Λ) code.function) (card-plan.spec 𝓤 H A mem run)
   card-plan-meets =

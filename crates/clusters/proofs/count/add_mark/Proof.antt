@@ -25,10 +25,24 @@ one-requires-3 : tie.Need-one-requires-3
 one-requires-3 c κs = search needs
 
 add-t11 : tie.Need-add-t11
-add-t11 c = record { fits = omega (arith, c .before .before .before .before .before .before .before .pre .undecided, c .before .one3 .ensures, one-le (eqb (c .before .before .before .before .before .before .before .args .mark) 63)) }
+add-t11 c = record {
+  fits =
+      omega (
+        arith,
+        c .before .before .before .before .before .before .before .pre .undecided,
+        c .before .one3 .ensures,
+        one-le
+            (eqb (c .before .before .before .before .before .before .before .args .mark) 63),
+      );
+}
 
 returns : tie.Need-returns
-returns c = rw (c .before .before .before .before .before .one .ensures, c .before .before .before .before .before .before .is-matched .ensures, c .before .before .before .one2 .ensures, c .before .one3 .ensures)
+returns c = rw (
+  c .before .before .before .before .before .one .ensures,
+  c .before .before .before .before .before .before .is-matched .ensures,
+  c .before .before .before .one2 .ensures,
+  c .before .one3 .ensures,
+)
 
 pub add-mark-spec : {M : Type 1} → statement M
 add-mark-spec =

@@ -62,27 +62,34 @@ after-requires c κs =
 
 add-i : tie.Need-add-i Inv-loop μ-loop
 add-i c =
-    let s = c .before .before .before .before .before .before .before .before .before .before .before in
+    let c8 = c .before .before .before .before .before .before .before .before in
+    let s = c8 .before .before .before in
     let a = s .args in
     let l = c .before .before .before .before .before .before .loop in
-    let d : done? (a .first .now) (a .second .now) (l .heads) ≡ false = sym (c .before .before .before .before .before .is-done .ensures) ∙ not-true _ (c .before .before .before .before .if1 .taken) in
+    let d : done? (a .first .now) (a .second .now) (l .heads) ≡ false = sym (c .before .before .before .before .before .is-done .ensures)
+    ∙ not-true _ (c .before .before .before .before .if1 .taken) in
     record { fits = omega (arith, counting-room (a .first .now) (a .second .now) (a .marks .now) (l .counts) (l .heads) (l .i) (l .inv) d, s .pre .2) }
 
 loop-less : tie.Need-loop-less Inv-loop μ-loop
 loop-less c =
-    let s = c .before .before .before .before .before .before .before .before .before .before .before in
+    let c8 = c .before .before .before .before .before .before .before .before in
+    let s = c8 .before .before .before in
     let a = s .args in
     let l = c .before .before .before .before .before .before .loop in
-    let d : done? (a .first .now) (a .second .now) (l .heads) ≡ false = sym (c .before .before .before .before .before .is-done .ensures) ∙ not-true _ (c .before .before .before .before .if1 .taken) in
+    let d : done? (a .first .now) (a .second .now) (l .heads) ≡ false = sym (c .before .before .before .before .before .is-done .ensures)
+    ∙ not-true _ (c .before .before .before .before .if1 .taken) in
     rw (c .after .ensures, c .before .before .before .next-item .ensures) (counting-less (a .first .now) (a .second .now) (a .marks .now) (l .counts) (l .heads) (l .i) (l .inv) d)
 
 loop-again : tie.Need-loop-again Inv-loop μ-loop
 loop-again c =
-    let s = c .before .before .before .before .before .before .before .before .before .before .before in
+    let c8 = c .before .before .before .before .before .before .before .before in
+    let s = c8 .before .before .before in
     let a = s .args in
     let l = c .before .before .before .before .before .before .loop in
-    let d : done? (a .first .now) (a .second .now) (l .heads) ≡ false = sym (c .before .before .before .before .before .is-done .ensures) ∙ not-true _ (c .before .before .before .before .if1 .taken) in
-    rw (c .after .ensures, c .before .add-entry .ensures, c .before .before .before .next-item .ensures) (counting-more (a .first .now) (a .second .now) (a .marks .now) (l .counts) (l .heads) (l .i) (l .inv) d (s .pre .1))
+    let d : done? (a .first .now) (a .second .now) (l .heads) ≡ false = sym (c .before .before .before .before .before .is-done .ensures)
+    ∙ not-true _ (c .before .before .before .before .if1 .taken) in
+    rw (c .after .ensures, c .before .add-entry .ensures, c .before .before .before .next-item .ensures)
+    (counting-more (a .first .now) (a .second .now) (a .marks .now) (l .counts) (l .heads) (l .i) (l .inv) d (s .pre .1))
 
 returns : tie.Need-returns Inv-loop μ-loop
 returns c =

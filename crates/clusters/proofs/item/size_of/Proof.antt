@@ -30,12 +30,14 @@ excess-requires-2 c κs = search needs
 
 returns : tie.Need-returns
 returns c =
-    let i = c .before .before .before .before .before .before .before .before .before .before .before .args .item in
+    let c8 = c .before .before .before .before .before .before .before .before in
+    let i = c8 .before .before .before .args .item in
     let e = i .entry in
     let n = e .reference .len in
-    let s : c .before .before .before .before .if1 .shorter ≡ min (lenOf e (e .copy0)) (lenOf e (e .copy1)) = ⊎-elim (λ w. omega arith) (λ w. omega arith) (c .before .before .before .before .if1 .came) in
+    let s : c .before .before .before .before .if1 .shorter ≡ min (lenOf e (e .copy0)) (lenOf e (e .copy1)) =
+    ⊎-elim (λ w. omega arith) (λ w. omega arith) (c .before .before .before .before .if1 .came) in
     let l : c .before .before .before .if2 .longer ≡ max (lenOf e (e .copy0)) (lenOf e (e .copy1)) = ⊎-elim (λ w. omega arith) (λ w. omega arith) (c .before .before .before .if2 .came) in
-    size-made i (c .before .before .before .before .before .before .before .before .place-of .result) (c .before .excess .result) (c .excess2 .result) (c .before .before .before .before .before .before .before .before .place-of .ensures)
+    size-made i (c8 .place-of .result) (c .before .excess .result) (c .excess2 .result) (c8 .place-of .ensures)
     (c .before .excess .ensures ∙ ap (λ (m : ℕ). n - m) s) (c .excess2 .ensures ∙ ap (λ (m : ℕ). m - n) l)
 
 pub size-of-spec : {M : Type 1} → statement M

@@ -27,8 +27,13 @@ loop-holds c =
     let a = c .before .before .before .before .before .before .before .args in
     let r = a .reference .now in
     let t1 = a .first .now in
-    let t2 = a .second .now in
-    (marking-start r t1 t2 (a .marks .now) (a .from) (length (a .table .now)) (length (a .mine .now)) (length (a .other .now)) (c .before .before .before .before .before .before .before .pre .0) (c .before .before .before .before .before .before .before .pre .1), refl, refl, refl)
+    let t2 = a .second .now in (
+      marking-start r t1 t2 (a .marks .now) (a .from) (length (a .table .now)) (length (a .mine .now)) (length (a .other .now)) (c .before .before .before .before .before .before .before .pre .0)
+          (c .before .before .before .before .before .before .before .pre .1),
+      refl,
+      refl,
+      refl,
+    )
 
 is-done-requires : tie.Need-is-done-requires Inv-loop μ-loop
 is-done-requires c κs = search needs
@@ -61,54 +66,66 @@ mark-cluster-requires c κs =
 
 add-total : tie.Need-add-total Inv-loop μ-loop
 add-total c =
-    let a = c .before .before .before .before .before .before .before .before .before .before .before .before .before .before .before .before .before .before .before .before .before .before .before .before .before .args in
+    let c8 = c .before .before .before .before .before .before .before .before in
+    let c16 = c8 .before .before .before .before .before .before .before .before in
+    let c24 = c16 .before .before .before .before .before .before .before .before in
+    let a = c24 .before .args in
     let r = a .reference .now in
     let t1 = a .first .now in
     let t2 = a .second .now in
-    let l = c .before .before .before .before .before .before .before .before .before .before .before .before .before .before .before .before .before .loop in
-    let d : done? t1 t2 (l .heads) ≡ false = sym (c .before .before .before .before .before .before .before .before .before .before .before .before .before .before .before .before .is-done .ensures) ∙ not-true _ (c .before .before .before .before .before .before .before .before .before .before .before .before .before .before .before .if1 .taken) in
-    let f = c .before .before .before .before .before .before .before .before .before .before .before .before .before .before .next-cluster in
-    let k = c .before .before .before .before .before .before .before .before .before .mark-cluster in
+    let l = c16 .before .loop in
+    let d : done? t1 t2 (l .heads) ≡ false = sym (c16 .is-done .ensures) ∙ not-true _ (c8 .before .before .before .before .before .before .before .if1 .taken) in
+    let f = c8 .before .before .before .before .before .before .next-cluster in
+    let k = c8 .before .mark-cluster in
     let w = marking-more r t1 t2 (a .marks .now) (a .from) (l .marks) (l .heads) (l .at) (l .total) (length (a .table .now)) (length (a .mine .now)) (length (a .other .now)) (l .inv .0) d
     (f .result) (k .result) (k .last .1 .1 .1 .1 .1 .1 .1 .1 .0) (f .ensures) (k .ensures .0) (k .ensures .1) in
-    omega (arith, w .0 .low, w .0 .fits, w .0 .space, c .before .before .before .before .before .before .before .before .before .before .before .before .before .before .before .before .before .before .before .before .before .before .before .before .before .good)
+    omega (arith, w .0 .low, w .0 .fits, w .0 .space, c24 .before .good)
 
 add-at : tie.Need-add-at Inv-loop μ-loop
 add-at c =
-    let a = c .before .before .before .before .before .before .before .before .before .before .before .before .before .before .before .before .before .before .before .before .before .before .before .before .before .before .args in
+    let c8 = c .before .before .before .before .before .before .before .before in
+    let c16 = c8 .before .before .before .before .before .before .before .before in
+    let c24 = c16 .before .before .before .before .before .before .before .before in
+    let a = c24 .before .before .args in
     let r = a .reference .now in
     let t1 = a .first .now in
     let t2 = a .second .now in
-    let l = c .before .before .before .before .before .before .before .before .before .before .before .before .before .before .before .before .before .before .loop in
-    let d : done? t1 t2 (l .heads) ≡ false = sym (c .before .before .before .before .before .before .before .before .before .before .before .before .before .before .before .before .before .is-done .ensures) ∙ not-true _ (c .before .before .before .before .before .before .before .before .before .before .before .before .before .before .before .before .if1 .taken) in
-    let f = c .before .before .before .before .before .before .before .before .before .before .before .before .before .before .before .next-cluster in
-    let k = c .before .before .before .before .before .before .before .before .before .before .mark-cluster in
+    let l = c16 .before .before .loop in
+    let d : done? t1 t2 (l .heads) ≡ false = sym (c16 .before .is-done .ensures) ∙ not-true _ (c16 .if1 .taken) in
+    let f = c8 .before .before .before .before .before .before .before .next-cluster in
+    let k = c8 .before .before .mark-cluster in
     let w = marking-more r t1 t2 (a .marks .now) (a .from) (l .marks) (l .heads) (l .at) (l .total) (length (a .table .now)) (length (a .mine .now)) (length (a .other .now)) (l .inv .0) d
     (f .result) (k .result) (k .last .1 .1 .1 .1 .1 .1 .1 .1 .0) (f .ensures) (k .ensures .0) (k .ensures .1) in
-    omega (arith, w .0 .fits, w .0 .space, c .before .before .before .before .before .before .before .before .before .before .before .before .before .before .before .before .before .before .before .before .before .before .before .before .before .before .good)
+    omega (arith, w .0 .fits, w .0 .space, c24 .before .before .good)
 
 loop-less : tie.Need-loop-less Inv-loop μ-loop
 loop-less c =
-    let a = c .before .before .before .before .before .before .before .before .before .before .before .before .before .before .before .before .before .before .before .before .before .before .before .before .before .before .before .args in
+    let c8 = c .before .before .before .before .before .before .before .before in
+    let c16 = c8 .before .before .before .before .before .before .before .before in
+    let c24 = c16 .before .before .before .before .before .before .before .before in
+    let a = c24 .before .before .before .args in
     let r = a .reference .now in
     let t1 = a .first .now in
     let t2 = a .second .now in
-    let l = c .before .before .before .before .before .before .before .before .before .before .before .before .before .before .before .before .before .before .before .loop in
-    let d : done? t1 t2 (l .heads) ≡ false = sym (c .before .before .before .before .before .before .before .before .before .before .before .before .before .before .before .before .before .before .is-done .ensures) ∙ not-true _ (c .before .before .before .before .before .before .before .before .before .before .before .before .before .before .before .before .before .if1 .taken) in
-    let f = c .before .before .before .before .before .before .before .before .before .before .before .before .before .before .before .before .next-cluster in
-    let k = c .before .before .before .before .before .before .before .before .before .before .before .mark-cluster in
+    let l = c16 .before .before .before .loop in
+    let d : done? t1 t2 (l .heads) ≡ false = sym (c16 .before .before .is-done .ensures) ∙ not-true _ (c16 .before .if1 .taken) in
+    let f = c16 .next-cluster in
+    let k = c8 .before .before .before .mark-cluster in
     let w = marking-more r t1 t2 (a .marks .now) (a .from) (l .marks) (l .heads) (l .at) (l .total) (length (a .table .now)) (length (a .mine .now)) (length (a .other .now)) (l .inv .0) d
     (f .result) (k .result) (k .last .1 .1 .1 .1 .1 .1 .1 .1 .0) (f .ensures) (k .ensures .0) (k .ensures .1) in
     w .1
 
 loop-again : tie.Need-loop-again Inv-loop μ-loop
 loop-again c =
-    let a = c .before .before .before .before .before .before .before .before .before .before .before .before .before .before .before .before .before .before .before .before .before .before .before .before .before .before .before .args in
+    let a = c .before .before .before .before .before .before .before .before .before .before .before .before .before .before .before .before .before .before .before .before
+    .before .before .before .before .before .before .before .args in
     let r = a .reference .now in
     let t1 = a .first .now in
     let t2 = a .second .now in
     let l = c .before .before .before .before .before .before .before .before .before .before .before .before .before .before .before .before .before .before .before .loop in
-    let d : done? t1 t2 (l .heads) ≡ false = sym (c .before .before .before .before .before .before .before .before .before .before .before .before .before .before .before .before .before .before .is-done .ensures) ∙ not-true _ (c .before .before .before .before .before .before .before .before .before .before .before .before .before .before .before .before .before .if1 .taken) in
+    let d : done? t1 t2 (l .heads) ≡ false =
+    sym (c .before .before .before .before .before .before .before .before .before .before .before .before .before .before .before .before .before .before .is-done .ensures)
+    ∙ not-true _ (c .before .before .before .before .before .before .before .before .before .before .before .before .before .before .before .before .before .if1 .taken) in
     let f = c .before .before .before .before .before .before .before .before .before .before .before .before .before .before .before .before .next-cluster in
     let k = c .before .before .before .before .before .before .before .before .before .before .before .mark-cluster in
     let w = marking-more r t1 t2 (a .marks .now) (a .from) (l .marks) (l .heads) (l .at) (l .total) (length (a .table .now)) (length (a .mine .now)) (length (a .other .now)) (l .inv .0) d

@@ -34,12 +34,13 @@ returns c =
 
 next-cluster-requires : tie.Need-next-cluster-requires
 next-cluster-requires c κs =
-    let a = c .before .before .before .before .before .before .before .before .args in
+    let c8 = c .before .before .before .before .before .before .before .before in
+    let a = c8 .args in
     let r = a .reference .now in
     let t1 = a .first .now in
     let t2 = a .second .now in
     let g = c .before .before .before .skip-clusters in
-    (sym (c .before .is-done .ensures) ∙ c .if1 .left, rw (g .ensures) (skip-ready r t1 t2 (a .cluster) (startHeads t1 t2) 0 (c .before .before .before .before .before .before .before .before .pre .0)))
+    (sym (c .before .is-done .ensures) ∙ c .if1 .left, rw (g .ensures) (skip-ready r t1 t2 (a .cluster) (startHeads t1 t2) 0 (c8 .pre .0)))
 
 slice-aggregate-mark-cluster : tie.Need-slice-aggregate-mark-cluster
 slice-aggregate-mark-cluster c = search needs
@@ -78,14 +79,17 @@ same-length c = search needs
 
 returns-2 : tie.Need-returns-2
 returns-2 c =
-    let a = c .before .before .before .before .before .before .before .before .before .before .before .before .before .before .before .before .before .before .before .args in
+    let c8 = c .before .before .before .before .before .before .before .before in
+    let c16 = c8 .before .before .before .before .before .before .before .before in
+    let a = c16 .before .before .before .args in
     let r = a .reference .now in
     let t1 = a .first .now in
     let t2 = a .second .now in
-    let g = c .before .before .before .before .before .before .before .before .before .before .before .before .before .before .skip-clusters in
-    let d : done? t1 t2 (g .result .heads) ≡ false = sym (c .before .before .before .before .before .before .before .before .before .before .before .before .is-done .ensures) ∙ c .before .before .before .before .before .before .before .before .before .before .before .if1 .left in
-    asked-found r t1 t2 (a .cluster) (startHeads t1 t2) (a .marks .now) (g .result) (g .ensures) d (c .before .before .before .before .before .before .before .before .before .before .next-cluster .result) (c .before .before .before .before .before .before .before .before .before .before .next-cluster .ensures)
-    (c .before .before .before .before .before .mark-cluster .last .1 .1 .1 .1 .1 .1 .1 .1 .0) (c .before .before .before .before .before .mark-cluster .result) (c .before .before .before .before .before .mark-cluster .ensures .0) (c .before .before .before .before .before .mark-cluster .ensures .1)
+    let g = c8 .before .before .before .before .before .before .skip-clusters in
+    let d : done? t1 t2 (g .result .heads) ≡ false = sym (c8 .before .before .before .before .is-done .ensures) ∙ c8 .before .before .before .if1 .left in
+    asked-found r t1 t2 (a .cluster) (startHeads t1 t2) (a .marks .now) (g .result) (g .ensures) d (c8 .before .before .next-cluster .result) (c8 .before .before .next-cluster .ensures)
+    (c .before .before .before .before .before .mark-cluster .last .1 .1 .1 .1 .1 .1 .1 .1 .0) (c .before .before .before .before .before .mark-cluster .result)
+    (c .before .before .before .before .before .mark-cluster .ensures .0) (c .before .before .before .before .before .mark-cluster .ensures .1)
 
 pub mark-one-spec : {M : Type 1} → statement M
 mark-one-spec =

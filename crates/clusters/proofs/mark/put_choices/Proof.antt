@@ -29,7 +29,8 @@ slice-write-marks : tie.Need-slice-write-marks Inv-loop μ-loop
 slice-write-marks c =
     let a = c .before .before .args in
     let i = c .before .loop .i in
-    let l : length (c .before .loop .marks) ≡ length (a .marks .now) = ap length (c .before .loop .inv .1) ∙ length-paste (a .marks .now) (a .at) (a .t1) i (omega arith) (omega (arith, c .before .before .good)) in
+    let l : length (c .before .loop .marks) ≡ length (a .marks .now) = ap length (c .before .loop .inv .1)
+    ∙ length-paste (a .marks .now) (a .at) (a .t1) i (omega arith) (omega (arith, c .before .before .good)) in
     omega arith
 
 add-i : tie.Need-add-i Inv-loop μ-loop

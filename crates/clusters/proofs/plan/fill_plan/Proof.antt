@@ -27,7 +27,8 @@ use contract.Lifetimes.{Lfts, Shares, toks}
 use contract.Monad.{Fun}
 use contract.Running.{givenOf, tables, tablesOf}
 use types.Kit.{Given, Item, ‵, raw, _⊛_, ⋆, runs, anyQ, atRet, Sq, _$_, _∵_, !, qed, by, move, drop, use1, use2, split, rewrite, fsplit, fjoin, suffices, frame, done}
-use types.Run.{look, init, store, store-raw, forget, stop, hop, fld, from, load, lit, of-opd, bin, and-then, no-more, assigns, assigns-last, land, first, blocks, stays, leaves-loop, returns, enter, alloc1, alloc0, params1, pass1, pass0, exec, Below, again, loops}
+use types.Run.{look, init, store, store-raw, forget, stop, hop, fld, from, load, lit, of-opd, bin, and-then, no-more, assigns, assigns-last, land, first, blocks, stays, leaves-loop, returns, enter}
+use types.Run.{alloc1, alloc0, params1, pass1, pass0, exec, Below, again, loops}
 use types.Part.{whole, sub, look-in}
 use sound.WpLaws.{WpFn-mono}
 use denote.RattleType.{RattleType, owns}
@@ -72,10 +73,14 @@ abbrev records : Ty
 records = sliceTy (tyRef (named 3) mut (pointee (R .written)))
 
 abbrev stayed : Stays (fill-plan.ended .signature .params) (fill-plan.ended .kept)
-stayed = (stay-none-slice (0 ∷ []) tt (plain (λ _. u8)) yes, (stay-none-slice (1 ∷ []) tt (plain (λ _. u8)) yes, (stay-none-slice (2 ∷ []) tt (plain (λ _. u8)) yes, (stay-slice (3 ∷ []) tt (plain (λ _. R)), tt))))
+stayed = (
+  stay-none-slice (0 ∷ []) tt (plain (λ _. u8)) yes,
+  (stay-none-slice (1 ∷ []) tt (plain (λ _. u8)) yes, (stay-none-slice (2 ∷ []) tt (plain (λ _. u8)) yes, (stay-slice (3 ∷ []) tt (plain (λ _. R)), tt))),
+)
 
 module _ {M : Type 1} (𝓤 : URA M) (H : Heap 𝓤) (A : Atoms 𝓤) (W : Given 𝓤 H A) (mem : Memory → SProp 𝓤) (run : Routine → Fun 𝓤) (κs : Lfts 3) (κ : Lft) (qs : Shares 3) (q : Share)
-    (xs : Refs) (b o : ℕ) (γ : GName) (ys : List Cluster) (g₁ : Room u8 (length (xs .0 .now))) (g₂ : Room u8 (length (xs .1 .0 .now))) (g₃ : Room u8 (length (xs .1 .1 .0 .now))) (gy : Room R (length ys)) (asked : Asked xs (length ys)) where
+    (xs : Refs) (b o : ℕ) (γ : GName) (ys : List Cluster) (g₁ : Room u8 (length (xs .0 .now))) (g₂ : Room u8 (length (xs .1 .0 .now))) (g₃ : Room u8 (length (xs .1 .1 .0 .now)))
+    (gy : Room R (length ys)) (asked : Asked xs (length ys)) where
   -- how many records the plan has, and the lent ones where k are written
   abbrev n : ℕ
   n = length (P xs)
@@ -110,7 +115,8 @@ module _ {M : Type 1} (𝓤 : URA M) (H : Heap 𝓤) (A : Atoms 𝓤) (W : Given
       qed W (raw (toks 𝓤 A 3 κs qs) ∷ ‵ (flft κ q) ∷ ‵ (texts κs xs) ∷ ‵ (own (filled k)) ∷ []) ∵
       suffices ! _ (ends-at 𝓤 H A fill-plan.ended stayed (fill-plan.clauses 𝓤 H A mem run) W passed (vint w64 k) k (tt, (tt, (tt, (filled k, tt)))) (tt, (tt, (tt, (len, tt))))) $ says ! (e, all) $
       use2 W (raw (toks 𝓤 A 4 (lastLft 3 κs κ) (lastShare 3 qs q))) (token-in 𝓤 H A W κ q 3 κs qs) $ frame ! $
-      use2 W (‵ (owns (Texts κs ++ (Lent ∷ [])) (lastIn (Texts κs) Lent xs (lent (filled k))) (lastVals (Texts κs) Lent (vals xs) (slice ∷ [])))) (last-in 𝓤 H A W Lent (lent (filled k)) (slice ∷ []) (Texts κs) xs (vals xs)) $ frame ! $
+      use2 W (‵ (owns (Texts κs ++ (Lent ∷ [])) (lastIn (Texts κs) Lent xs (lent (filled k))) (lastVals (Texts κs) Lent (vals xs) (slice ∷ []))))
+      (last-in 𝓤 H A W Lent (lent (filled k)) (slice ∷ []) (Texts κs) xs (vals xs)) $ frame ! $
       owned ! usize (Is usize) (uint-makes 𝓤 H A W w64) k (vint w64 k ∷ []) (refl, gk) $ done !
 
   -- ---- the loop: how many records are written, and that the step in hand is a value of its type
@@ -123,7 +129,8 @@ module _ {M : Type 1} (𝓤 : URA M) (H : Heap 𝓤) (A : Atoms 𝓤) (W : Given
   Nearer-wf : WellFounded Nearer
   Nearer-wf = InvImage·wf (λ (i : Upto). n - i .0) (Nat·lt-wfRel .wf)
 
-  module _ (𝓣 : Tables 𝓤 H) (known-first : Triple 𝓤 (𝓣 .C first-walk.name) (First 𝓤 H A mem run)) (known-next : Triple 𝓤 (𝓣 .C next-walk.name) (Next 𝓤 H A mem run)) (l₀ l₁ l₂ l₃ l₄ l₅ l₆ l₇ l₈ l₉ : ℕ) where
+  module _ (𝓣 : Tables 𝓤 H) (known-first : Triple 𝓤 (𝓣 .C first-walk.name) (First 𝓤 H A mem run)) (known-next : Triple 𝓤 (𝓣 .C next-walk.name) (Next 𝓤 H A mem run))
+      (l₀ l₁ l₂ l₃ l₄ l₅ l₆ l₇ l₈ l₉ : ℕ) where
     abbrev En : Env 𝓤 H
     En = (word, l₀) ∷ (text 0, l₁) ∷ (text 1, l₂) ∷ (text 2, l₃) ∷ (records, l₄) ∷ (Walk″.mir, l₅) ∷ (word, l₆) ∷ (tyBool, l₇) ∷ (word, l₈) ∷ (tyPtr, l₉) ∷ []
 
@@ -131,7 +138,8 @@ module _ {M : Type 1} (𝓤 : URA M) (H : Heap 𝓤) (A : Atoms 𝓤) (W : Given
     abbrev With : List Cluster → Item 𝓤 → Item 𝓤 → List (Item 𝓤)
     With l k w = raw (toks 𝓤 A 3 κs qs) ∷ ‵ (texts κs xs) ∷ ‵ (flft κ q) ∷ ‵ (own l)
         ∷ ‵ (froom tyPtr l₉ 0) ∷ ‵ (fdies tyPtr l₉) ∷ ‵ (froom word l₈ 0) ∷ ‵ (fdies word l₈) ∷ ‵ (froom tyBool l₇ 0) ∷ ‵ (fdies tyBool l₇) ∷ k ∷ ‵ (fdies word l₆) ∷ w ∷ ‵ (fdies Walk″.mir l₅)
-        ∷ ‵ (fat fullShare records l₄ 0 slice) ∷ ‵ (fdies records l₄) ∷ ‵ (fat fullShare (text 2) l₃ 0 (only (vals xs .1 .1 .0))) ∷ ‵ (fdies (text 2) l₃) ∷ ‵ (fat fullShare (text 1) l₂ 0 (only (vals xs .1 .0))) ∷ ‵ (fdies (text 1) l₂)
+        ∷ ‵ (fat fullShare records l₄ 0 slice) ∷ ‵ (fdies records l₄) ∷ ‵ (fat fullShare (text 2) l₃ 0 (only (vals xs .1 .1 .0))) ∷ ‵ (fdies (text 2) l₃)
+        ∷ ‵ (fat fullShare (text 1) l₂ 0 (only (vals xs .1 .0))) ∷ ‵ (fdies (text 1) l₂)
         ∷ ‵ (fat fullShare (text 0) l₁ 0 (only (vals xs .0))) ∷ ‵ (fdies (text 0) l₁) ∷ ‵ (froom word l₀ 0) ∷ ‵ (fdies word l₀) ∷ []
 
     abbrev At : Upto → List (Item 𝓤)
@@ -166,12 +174,15 @@ module _ {M : Type 1} (𝓤 : URA M) (H : Heap 𝓤) (A : Atoms 𝓤) (W : Given
         -- [record k; what it owns; the others; the open borrow; obs; auth; the texts' tokens; the texts; _9; …]
         assigns ! (of-opd ! (load ! (from ! (fld ! refl (stop !))) (look-in ! 16 (sub ! 1 refl (whole !))))) (from ! (hop ! (look ! 8 refl) (stop !))) (store-raw ! 0 refl (tt, typed .1 .1 .0)) $
         move ! (1 ∷ []) $ drop ! $ owned ! R (Is R) ((LL.makes Cluster′.the-type Cluster″.the-plain) 𝓤 H A) (w .cluster) _ (made (w .cluster) (typed .1 .1 .0 .0 .fits) (typed .1 .1 .0 .1 .0 .fits)) $
-        move ! (1 ∷ 0 ∷ []) $ elem-put ! R fullShare zs k (w .cluster) (Cluster″.lowered (w .cluster) ∷ []) b o inside $ closes-slice ! tt R zs (set zs k (w .cluster)) (length-set zs k (w .cluster)) b o $
+        move ! (1 ∷ 0 ∷ []) $ elem-put ! R fullShare zs k (w .cluster) (Cluster″.lowered (w .cluster) ∷ []) b o inside $
+        closes-slice ! tt R zs (set zs k (w .cluster)) (length-set zs k (w .cluster)) b o $
         fjoin ! $ pureI ! (at-slice R (lent (set zs k (w .cluster))) (slice ∷ [])) (tt, (tt, tt)) (ap (λ (m : ℕ). sliceVal (b, o) m ∷ []) (sym set-len), subst (Room R) (sym set-len) gy) $ fjoin ! $
         rewrite ! 0 (λ (l : List Cluster). ‵ (own l)) (ap (set zs k) (s .cluster) ∙ fill-next (P xs) ys (asked .1) k none less) refl $
         -- [the records; their token; the texts' tokens; the texts; _9; …]
         move ! (2 ∷ 3 ∷ 1 ∷ []) $ goes-on 𝓤 H A W mem run κs qs xs 𝓣 ! known-next (length ys) asked k less (i .1 .1)
-        (and-then ! (load ! (from ! (stop !)) (look ! 20 refl)) (and-then ! (load ! (from ! (stop !)) (look ! 18 refl)) (and-then ! (load ! (from ! (stop !)) (look ! 16 refl)) (and-then ! (load ! (from ! (stop !)) (look ! 12 refl)) (no-more !))))) (λ fine good.
+        (and-then ! (load ! (from ! (stop !)) (look ! 20 refl))
+        (and-then ! (load ! (from ! (stop !)) (look ! 18 refl)) (and-then ! (load ! (from ! (stop !)) (look ! 16 refl)) (and-then ! (load ! (from ! (stop !)) (look ! 12 refl)) (no-more !)))))
+        (λ fine good.
         land ! (from ! (stop !)) (store ! 12 refl fine) $
         assigns-last ! (bin ! (load ! (from ! (stop !)) (look ! 10 refl)) (lit ! tt) (record { fits = next-fits })) (from ! (stop !)) (store ! 10 refl (tt, record { fits = next-fits })) $
         forget ! 4 refl $ forget ! 6 refl $ forget ! 8 refl $ again ! Nearer At i (k + 1, (omega arith, good)) (omega arith)))
@@ -195,37 +206,45 @@ module _ {M : Type 1} (𝓤 : URA M) (H : Heap 𝓤) (A : Atoms 𝓤) (W : Given
     starts : Sq W (With ys (‵ (froom word l₆ 0)) (‵ (froom Walk″.mir l₅ 0))) (runs (𝓣 .C) (𝓣 .Λ) En cm.t-1 (atRet En Post))
     starts =
         begins 𝓤 H A W mem run κs qs xs 𝓣 ! known-first (length ys) asked
-        (and-then ! (load ! (from ! (stop !)) (look ! 20 refl)) (and-then ! (load ! (from ! (stop !)) (look ! 18 refl)) (and-then ! (load ! (from ! (stop !)) (look ! 16 refl)) (no-more !)))) (λ fine good.
+        (and-then ! (load ! (from ! (stop !)) (look ! 20 refl)) (and-then ! (load ! (from ! (stop !)) (look ! 18 refl)) (and-then ! (load ! (from ! (stop !)) (look ! 16 refl)) (no-more !))))
+        (λ fine good.
         land ! (from ! (stop !)) (init ! 12 refl fine) $
         assigns ! (of-opd ! (lit ! tt)) (from ! (stop !)) (init ! 10 refl (tt, record { fits = lit< tt })) $
         rewrite ! 3 (λ (l : List Cluster). ‵ (own l)) (fill-none (P xs) ys (asked .1)) refl $
         first ! $ blocks ! $ loops ! 𝓣 Nearer Nearer-wf At turns (0, (zero-le, good)))
 
   walk : (𝓣 : Tables 𝓤 H) → Triple 𝓤 (𝓣 .C first-walk.name) (First 𝓤 H A mem run) → Triple 𝓤 (𝓣 .C next-walk.name) (Next 𝓤 H A mem run)
-      → ent 𝓤 (onEntry 𝓤 H A fill-plan.signature (passed .0 .0) (passed .0 .1) (passed .0 .3) (passed .0 .4)) (WpFn 𝓤 H (𝓣 .C) (𝓣 .Λ) code.function (walkOf 𝓤 H A fill-plan.ended stayed (fill-plan.clauses 𝓤 H A mem run) .args passed) Post)
+      → ent 𝓤 (onEntry 𝓤 H A fill-plan.signature (passed .0 .0) (passed .0 .1) (passed .0 .3) (passed .0 .4))
+      (WpFn 𝓤 H (𝓣 .C) (𝓣 .Λ) code.function (walkOf 𝓤 H A fill-plan.ended stayed (fill-plan.clauses 𝓤 H A mem run) .args passed) Post)
   walk 𝓣 known-first known-next =
       qed W (raw (toks 𝓤 A 4 (lastLft 3 κs κ) (lastShare 3 qs q)) ∷ ‵ (owns (Texts κs ++ (Lent ∷ [])) (passed .0 .3) (passed .0 .4)) ∷ []) ∵
-      use1 W (raw (toks 𝓤 A 3 κs qs) ⊛ ‵ (flft κ q)) (token-out 𝓤 H A W κ q 3 κs qs) $ split ! $ move ! (2 ∷ []) $ use1 W (‵ (texts κs xs) ⊛ ‵ (own ys)) (last-out 𝓤 H A W Lent (lent ys) (slice ∷ []) (Texts κs) xs (vals xs)) $ split ! $
+      use1 W (raw (toks 𝓤 A 3 κs qs) ⊛ ‵ (flft κ q)) (token-out 𝓤 H A W κ q 3 κs qs) $ split ! $ move ! (2 ∷ []) $
+      use1 W (‵ (texts κs xs) ⊛ ‵ (own ys)) (last-out 𝓤 H A W Lent (lent ys) (slice ∷ []) (Texts κs) xs (vals xs)) $ split ! $
       -- [the texts; the records; the texts' tokens; the records' token]
       enter ! (𝓣 .C) (𝓣 .Λ) code.function _ _ $
       alloc1 ! (λ l₀. alloc1 ! (λ l₁. alloc1 ! (λ l₂. alloc1 ! (λ l₃. alloc1 ! (λ l₄. alloc1 ! (λ l₅. alloc1 ! (λ l₆. alloc1 ! (λ l₇. alloc1 ! (λ l₈. alloc1 ! (λ l₉. alloc0 ! $ params1 ! $
       -- [_9; …; _0; …; the texts; the records; the texts' tokens; the records' token]
-      pass1 ! (init ! 16 refl (tt, (tt, (record { fits = g₁ .0 }, tt)))) $ pass1 ! (init ! 14 refl (tt, (tt, (record { fits = g₂ .0 }, tt)))) $ pass1 ! (init ! 12 refl (tt, (tt, (record { fits = g₃ .0 }, tt)))) $ pass1 ! (init ! 10 refl (tt, (tt, (record { fits = gy .0 }, tt)))) $ pass0 ! $
+      pass1 ! (init ! 16 refl (tt, (tt, (record { fits = g₁ .0 }, tt)))) $ pass1 ! (init ! 14 refl (tt, (tt, (record { fits = g₂ .0 }, tt)))) $
+      pass1 ! (init ! 12 refl (tt, (tt, (record { fits = g₃ .0 }, tt)))) $ pass1 ! (init ! 10 refl (tt, (tt, (record { fits = gy .0 }, tt)))) $ pass0 ! $
       move ! (22 ∷ 20 ∷ 23 ∷ 21 ∷ []) $ starts 𝓣 known-first known-next l₀ l₁ l₂ l₃ l₄ l₅ l₆ l₇ l₈ l₉))))))))))
 
-module _ {M : Type 1} (𝓤 : URA M) (H : Heap 𝓤) (A : Atoms 𝓤) (W : Given 𝓤 H A) (mem : Memory → SProp 𝓤) (run : Routine → Fun 𝓤) (𝓣 : Tables 𝓤 H) (known-first : Triple 𝓤 (𝓣 .C first-walk.name) (First 𝓤 H A mem run)) (known-next : Triple 𝓤 (𝓣 .C next-walk.name) (Next 𝓤 H A mem run)) where
+module _ {M : Type 1} (𝓤 : URA M) (H : Heap 𝓤) (A : Atoms 𝓤) (W : Given 𝓤 H A) (mem : Memory → SProp 𝓤) (run : Routine → Fun 𝓤) (𝓣 : Tables 𝓤 H)
+    (known-first : Triple 𝓤 (𝓣 .C first-walk.name) (First 𝓤 H A mem run)) (known-next : Triple 𝓤 (𝓣 .C next-walk.name) (Next 𝓤 H A mem run)) where
   fill-plan-walks : Walks 𝓤 H A fill-plan.ended stayed (WpFn 𝓤 H (𝓣 .C) (𝓣 .Λ) code.function) (fill-plan.clauses 𝓤 H A mem run)
   fill-plan-walks =
       walked 𝓤 H A fill-plan.ended stayed (fill-plan.clauses 𝓤 H A mem run) (WpFn 𝓤 H (𝓣 .C) (𝓣 .Λ) code.function) (λ κs. (slice-vals, (slice-vals, (slice-vals, (slice-vals, tt)))))
       (λ κs. (shr-slice-tells (named 0) (κs .0) u8, (shr-slice-tells (named 1) (κs .1 .0) u8, (shr-slice-tells (named 2) (κs .1 .1 .0) u8, (mut-slice-tells (named 3) (κs .1 .1 .1 .0) R, tt)))))
       (λ κs qs bounds a g are. needs 𝓤 (Asked (a .0, (a .1 .0, (a .1 .1 .0, tt))) (length (a .1 .1 .1 .0 .now))) _ (λ asked.
       walk 𝓤 H A W mem run (κs .0, (κs .1 .0, (κs .1 .1 .0, tt))) (κs .1 .1 .1 .0) (qs .0, (qs .1 .0, (qs .1 .1 .0, tt))) (qs .1 .1 .1 .0) (a .0, (a .1 .0, (a .1 .1 .0, tt)))
-      (a .1 .1 .1 .0 .ptr .0) (a .1 .1 .1 .0 .ptr .1) (a .1 .1 .1 .0 .name) (a .1 .1 .1 .0 .now) (are .0 .0 .1) (are .1 .0 .0 .1) (are .1 .1 .0 .0 .1) (are .1 .1 .1 .0 .0 .1) asked 𝓣 known-first known-next))
+      (a .1 .1 .1 .0 .ptr .0) (a .1 .1 .1 .0 .ptr .1) (a .1 .1 .1 .0 .name) (a .1 .1 .1 .0 .now) (are .0 .0 .1) (are .1 .0 .0 .1) (are .1 .1 .0 .0 .1) (are .1 .1 .1 .0 .0 .1) asked 𝓣 known-first
+      known-next))
 
   fill-plan-meets : Meets 𝓤 H A fill-plan.signature (WpFn 𝓤 H (𝓣 .C) (𝓣 .Λ) code.function) (fill-plan.spec 𝓤 H A mem run)
   fill-plan-meets =
-      walk-meets 𝓤 H A fill-plan.ended stayed W
-      (goes-none-slice 𝓤 H A W 4 (0 ∷ []) tt (plain (λ _. u8)) yes, (goes-none-slice 𝓤 H A W 4 (1 ∷ []) tt (plain (λ _. u8)) yes, (goes-none-slice 𝓤 H A W 4 (2 ∷ []) tt (plain (λ _. u8)) yes, (goes-slice 𝓤 H A W 4 3 tt (plain (λ _. R)), tt))))
+      walk-meets 𝓤 H A fill-plan.ended stayed W (
+        goes-none-slice 𝓤 H A W 4 (0 ∷ []) tt (plain (λ _. u8)) yes,
+        (goes-none-slice 𝓤 H A W 4 (1 ∷ []) tt (plain (λ _. u8)) yes, (goes-none-slice 𝓤 H A W 4 (2 ∷ []) tt (plain (λ _. u8)) yes, (goes-slice 𝓤 H A W 4 3 tt (plain (λ _. R)), tt))),
+      )
       (fill-plan.clauses 𝓤 H A mem run) (WpFn 𝓤 H (𝓣 .C) (𝓣 .Λ) code.function) (WpFn-mono 𝓤 H (W .laws) 𝓣 code.function) fill-plan-walks
 
 pub fill-plan-spec : {M : Type 1} → stated.statement M

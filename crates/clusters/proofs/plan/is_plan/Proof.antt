@@ -28,7 +28,8 @@ use contract.Lifetimes.{Lfts, Shares, toks}
 use contract.Monad.{Fun}
 use contract.Running.{givenOf, tables, tablesOf}
 use types.Kit.{Given, Item, ‵, raw, _⊛_, ⋆, runs, anyQ, atRet, Sq, _$_, _∵_, !, qed, by, move, drop, use1, use2, split, rewrite, fsplit, feqI, suffices, frame, done}
-use types.Run.{look, init, store, look-raw, forget, stop, hop, fld, from, load, lit, true-lit, of-opd, bin, and-then, no-more, assigns, assigns-last, land, first, blocks, stays, leaves-loop, returns, enter, alloc1, alloc0, params1, pass1, pass0, exec, Below, again, loops}
+use types.Run.{look, init, store, look-raw, forget, stop, hop, fld, from, load, lit, true-lit, of-opd, bin, and-then, no-more, assigns, assigns-last, land, first, blocks, stays, leaves-loop, returns}
+use types.Run.{enter, alloc1, alloc0, params1, pass1, pass0, exec, Below, again, loops}
 use types.Part.{whole, sub, look-in}
 use sound.WpLaws.{WpFn-mono}
 use denote.RattleType.{RattleType, owns}
@@ -70,10 +71,14 @@ abbrev records : Ty
 records = sliceTy (tyRef (named 3) imm (pointee (R .written)))
 
 abbrev stayed : Stays (is-plan.ended .signature .params) (is-plan.ended .kept)
-stayed = (stay-none-slice (0 ∷ []) tt (plain (λ _. u8)) yes, (stay-none-slice (1 ∷ []) tt (plain (λ _. u8)) yes, (stay-none-slice (2 ∷ []) tt (plain (λ _. u8)) yes, (stay-none-slice (3 ∷ []) tt (plain (λ _. R)) yes, tt))))
+stayed = (
+  stay-none-slice (0 ∷ []) tt (plain (λ _. u8)) yes,
+  (stay-none-slice (1 ∷ []) tt (plain (λ _. u8)) yes, (stay-none-slice (2 ∷ []) tt (plain (λ _. u8)) yes, (stay-none-slice (3 ∷ []) tt (plain (λ _. R)) yes, tt))),
+)
 
 module _ {M : Type 1} (𝓤 : URA M) (H : Heap 𝓤) (A : Atoms 𝓤) (W : Given 𝓤 H A) (mem : Memory → SProp 𝓤) (run : Routine → Fun 𝓤) (κs : Lfts 3) (κ : Lft) (qs : Shares 3) (q : Share)
-    (xs : Refs) (b o : ℕ) (γ : GName) (ys : List Cluster) (g₁ : Room u8 (length (xs .0 .now))) (g₂ : Room u8 (length (xs .1 .0 .now))) (g₃ : Room u8 (length (xs .1 .1 .0 .now))) (gy : Room R (length ys)) (asked : Asked xs (length ys)) where
+    (xs : Refs) (b o : ℕ) (γ : GName) (ys : List Cluster) (g₁ : Room u8 (length (xs .0 .now))) (g₂ : Room u8 (length (xs .1 .0 .now))) (g₃ : Room u8 (length (xs .1 .1 .0 .now)))
+    (gy : Room R (length ys)) (asked : Asked xs (length ys)) where
   -- how many records the plan has, and whether the first k are given
   abbrev n : ℕ
   n = length (P xs)
@@ -106,7 +111,8 @@ module _ {M : Type 1} (𝓤 : URA M) (H : Heap 𝓤) (A : Atoms 𝓤) (W : Given
       qed W (raw (toks 𝓤 A 3 κs qs) ∷ ‵ (flft κ q) ∷ ‵ (texts κs xs) ∷ ‵ own ∷ []) ∵
       suffices ! _ (ends-at 𝓤 H A is-plan.ended stayed (is-plan.clauses 𝓤 H A mem run) W passed (vbool t) t (tt, (tt, (tt, (tt, tt)))) (tt, (tt, (tt, (tt, tt))))) $ says ! e $
       use2 W (raw (toks 𝓤 A 4 (lastLft 3 κs κ) (lastShare 3 qs q))) (token-in 𝓤 H A W κ q 3 κs qs) $ frame ! $
-      use2 W (‵ (owns (Texts κs ++ (Lent ∷ [])) (lastIn (Texts κs) Lent xs lent) (lastVals (Texts κs) Lent (vals xs) (slice ∷ [])))) (last-in 𝓤 H A W Lent lent (slice ∷ []) (Texts κs) xs (vals xs)) $ frame ! $
+      use2 W (‵ (owns (Texts κs ++ (Lent ∷ [])) (lastIn (Texts κs) Lent xs lent) (lastVals (Texts κs) Lent (vals xs) (slice ∷ [])))) (last-in 𝓤 H A W Lent lent (slice ∷ []) (Texts κs) xs (vals xs)) $
+      frame ! $
       feqI ! (List Val) (vbool t ∷ []) (vbool t ∷ []) refl $ done !
 
   -- ---- the loop: how many records are judged, and that the step in hand is a value of its type
@@ -119,16 +125,21 @@ module _ {M : Type 1} (𝓤 : URA M) (H : Heap 𝓤) (A : Atoms 𝓤) (W : Given
   Nearer-wf : WellFounded Nearer
   Nearer-wf = InvImage·wf (λ (i : Upto). n - i .0) (Nat·lt-wfRel .wf)
 
-  module _ (𝓣 : Tables 𝓤 H) (known-first : Triple 𝓤 (𝓣 .C first-walk.name) (First 𝓤 H A mem run)) (known-next : Triple 𝓤 (𝓣 .C next-walk.name) (Next 𝓤 H A mem run)) (l₀ l₁ l₂ l₃ l₄ l₅ l₆ l₇ l₈ l₉ l₁₀ l₁₁ l₁₂ l₁₃ l₁₄ : ℕ) where
+  module _ (𝓣 : Tables 𝓤 H) (known-first : Triple 𝓤 (𝓣 .C first-walk.name) (First 𝓤 H A mem run)) (known-next : Triple 𝓤 (𝓣 .C next-walk.name) (Next 𝓤 H A mem run))
+      (l₀ l₁ l₂ l₃ l₄ l₅ l₆ l₇ l₈ l₉ l₁₀ l₁₁ l₁₂ l₁₃ l₁₄ : ℕ) where
     abbrev En : Env 𝓤 H
-    En = (tyBool, l₀) ∷ (text 0, l₁) ∷ (text 1, l₂) ∷ (text 2, l₃) ∷ (records, l₄) ∷ (Walk″.mir, l₅) ∷ (tyBool, l₆) ∷ (word, l₇) ∷ (Cluster″.mir, l₈) ∷ (tyBool, l₉) ∷ (word, l₁₀) ∷ (tyPtr, l₁₁) ∷ (Cluster″.mir, l₁₂) ∷ (tyBool, l₁₃) ∷ (tyBool, l₁₄) ∷ []
+    En = (tyBool, l₀) ∷ (text 0, l₁) ∷ (text 1, l₂) ∷ (text 2, l₃) ∷ (records, l₄) ∷ (Walk″.mir, l₅) ∷ (tyBool, l₆) ∷ (word, l₇) ∷ (Cluster″.mir, l₈) ∷ (tyBool, l₉) ∷ (word, l₁₀) ∷ (tyPtr, l₁₁)
+        ∷ (Cluster″.mir, l₁₂) ∷ (tyBool, l₁₃) ∷ (tyBool, l₁₄) ∷ []
 
     -- the texts' tokens; the texts; the records' token; the records; the locals, each with what frees it. k, `same` and the step are given
     abbrev With : Item 𝓤 → Item 𝓤 → Item 𝓤 → List (Item 𝓤)
     With k t w = raw (toks 𝓤 A 3 κs qs) ∷ ‵ (texts κs xs) ∷ ‵ (flft κ q) ∷ ‵ own
-        ∷ ‵ (froom tyBool l₁₄ 0) ∷ ‵ (fdies tyBool l₁₄) ∷ ‵ (froom tyBool l₁₃ 0) ∷ ‵ (fdies tyBool l₁₃) ∷ ‵ (froom Cluster″.mir l₁₂ 0) ∷ ‵ (fdies Cluster″.mir l₁₂) ∷ ‵ (froom tyPtr l₁₁ 0) ∷ ‵ (fdies tyPtr l₁₁)
-        ∷ ‵ (froom word l₁₀ 0) ∷ ‵ (fdies word l₁₀) ∷ ‵ (froom tyBool l₉ 0) ∷ ‵ (fdies tyBool l₉) ∷ ‵ (froom Cluster″.mir l₈ 0) ∷ ‵ (fdies Cluster″.mir l₈) ∷ k ∷ ‵ (fdies word l₇) ∷ t ∷ ‵ (fdies tyBool l₆) ∷ w ∷ ‵ (fdies Walk″.mir l₅)
-        ∷ ‵ (fat fullShare records l₄ 0 slice) ∷ ‵ (fdies records l₄) ∷ ‵ (fat fullShare (text 2) l₃ 0 (only (vals xs .1 .1 .0))) ∷ ‵ (fdies (text 2) l₃) ∷ ‵ (fat fullShare (text 1) l₂ 0 (only (vals xs .1 .0))) ∷ ‵ (fdies (text 1) l₂)
+        ∷ ‵ (froom tyBool l₁₄ 0) ∷ ‵ (fdies tyBool l₁₄) ∷ ‵ (froom tyBool l₁₃ 0) ∷ ‵ (fdies tyBool l₁₃) ∷ ‵ (froom Cluster″.mir l₁₂ 0) ∷ ‵ (fdies Cluster″.mir l₁₂) ∷ ‵ (froom tyPtr l₁₁ 0)
+        ∷ ‵ (fdies tyPtr l₁₁)
+        ∷ ‵ (froom word l₁₀ 0) ∷ ‵ (fdies word l₁₀) ∷ ‵ (froom tyBool l₉ 0) ∷ ‵ (fdies tyBool l₉) ∷ ‵ (froom Cluster″.mir l₈ 0) ∷ ‵ (fdies Cluster″.mir l₈) ∷ k ∷ ‵ (fdies word l₇) ∷ t
+        ∷ ‵ (fdies tyBool l₆) ∷ w ∷ ‵ (fdies Walk″.mir l₅)
+        ∷ ‵ (fat fullShare records l₄ 0 slice) ∷ ‵ (fdies records l₄) ∷ ‵ (fat fullShare (text 2) l₃ 0 (only (vals xs .1 .1 .0))) ∷ ‵ (fdies (text 2) l₃)
+        ∷ ‵ (fat fullShare (text 1) l₂ 0 (only (vals xs .1 .0))) ∷ ‵ (fdies (text 1) l₂)
         ∷ ‵ (fat fullShare (text 0) l₁ 0 (only (vals xs .0))) ∷ ‵ (fdies (text 0) l₁) ∷ ‵ (froom tyBool l₀ 0) ∷ ‵ (fdies tyBool l₀) ∷ []
 
     abbrev At : Upto → List (Item 𝓤)
@@ -149,7 +160,8 @@ module _ {M : Type 1} (𝓤 : URA M) (H : Heap 𝓤) (A : Atoms 𝓤) (W : Given
         let scaled : k * 8 < 2 ^ 64 = omega (arith, gy .1) in
         let next-fits : k + 1 < 2 ^ 64 = omega arith in
         let judged : (same k && eqb (w .cluster .first) (given .first)) && eqb (w .cluster .count) (given .count) ≡ same (k + 1) =
-        and-and (same k) (eqb (w .cluster .first) (given .first)) (eqb (w .cluster .count) (given .count)) ∙ ap (λ (c : Cluster). same k && sameCluster? c given) (s .cluster) ∙ is-plan-next none k (P xs) ys less inside in
+        and-and (same k) (eqb (w .cluster .first) (given .first)) (eqb (w .cluster .count) (given .count)) ∙ ap (λ (c : Cluster). same k && sameCluster? c given) (s .cluster)
+        ∙ is-plan-next none k (P xs) ys less inside in
         assigns ! (of-opd ! (load ! (from ! (fld ! refl (stop !))) (look-in ! 22 (sub ! 0 refl (whole !))))) (from ! (stop !)) (init ! 14 refl (tt, tt)) $
         rewrite ! 14 (λ (t : Bool). ‵ (fat fullShare tyBool l₉ 0 (vbool t))) (s .more) refl $
         stays ! (load ! (from ! (stop !)) (look ! 14 refl)) $
@@ -158,23 +170,30 @@ module _ {M : Type 1} (𝓤 : URA M) (H : Heap 𝓤) (A : Atoms 𝓤) (W : Given
         rewrite ! 10 (λ (p : ℕ). ‵ (fat fullShare tyPtr l₁₁ 0 (vptr b p))) (sym (place-is 8 o k)) refl $
         -- record k is taken out of the row, copied, and put back; a copy of what the records own is kept whole
         move ! (3 ∷ []) $ use1 W (‵ own ⊛ ‵ own) (shr-slice-copy 𝓤 H A W (named 3) κ R .twice lent (slice ∷ [])) $ split ! $ fsplit ! $ drop ! $ fsplit ! $ drop ! $ move ! (0 ∷ 4 ∷ []) $
-        looks-slice ! tt R (Is R) (shows 𝓤 H A R) (LL.vals Cluster′.the-type Cluster″.the-laws) (LL.tells Cluster′.the-type Cluster″.the-laws) ((LL.copy Cluster′.the-type Cluster″.the-copy) 𝓤 H A W) ys b o (λ q′.
+        looks-slice ! tt R (Is R) (shows 𝓤 H A R) (LL.vals Cluster′.the-type Cluster″.the-laws) (LL.tells Cluster′.the-type Cluster″.the-laws) ((LL.copy Cluster′.the-type Cluster″.the-copy) 𝓤 H A W)
+        ys b o (λ q′.
         elem-out ! R (Is R) (shows 𝓤 H A R) (LL.vals Cluster′.the-type Cluster″.the-laws) (LL.tells Cluster′.the-type Cluster″.the-laws) q′ ys k none b o inside (λ g.
         -- [record k; what it owns; the others; what shuts; the shared borrow; the records; the texts' tokens; the texts; _14; …]
-        assigns ! (of-opd ! (load ! (from ! (hop ! (look ! 14 refl) (stop !))) (look-raw ! 0 refl))) (from ! (stop !)) (init ! 12 refl (LL.lawful Cluster′.the-type Cluster″.the-laws 𝓤 H A W .typed given _ g .0)) $
+        assigns ! (of-opd ! (load ! (from ! (hop ! (look ! 14 refl) (stop !))) (look-raw ! 0 refl))) (from ! (stop !))
+        (init ! 12 refl (LL.lawful Cluster′.the-type Cluster″.the-laws 𝓤 H A W .typed given _ g .0)) $
         assigns ! (of-opd ! (load ! (from ! (stop !)) (look ! 12 refl))) (from ! (stop !)) (init ! 20 refl (LL.lawful Cluster′.the-type Cluster″.the-laws 𝓤 H A W .typed given _ g .0)) $
         elem-back ! R q′ ys k none (LL.vals Cluster′.the-type Cluster″.the-laws given) b o inside $ shuts-slice ! tt R q′ ys b o $ move ! (1 ∷ []) $ drop ! $
         -- [the records' token; the records; the texts' tokens; the texts; _14; …]
-        assigns ! (bin ! (load ! (from ! (fld ! refl (fld ! refl (stop !)))) (look-in ! 22 (sub ! 0 refl (sub ! 1 refl (whole !))))) (load ! (from ! (fld ! refl (stop !))) (look-in ! 16 (sub ! 0 refl (whole !)))) tt) (from ! (stop !)) (store ! 14 refl (tt, tt)) $
+        assigns ! (bin ! (load ! (from ! (fld ! refl (fld ! refl (stop !)))) (look-in ! 22 (sub ! 0 refl (sub ! 1 refl (whole !)))))
+        (load ! (from ! (fld ! refl (stop !))) (look-in ! 16 (sub ! 0 refl (whole !)))) tt) (from ! (stop !)) (store ! 14 refl (tt, tt)) $
         assigns ! (bin ! (load ! (from ! (stop !)) (look ! 20 refl)) (load ! (from ! (stop !)) (look ! 14 refl)) tt) (from ! (stop !)) (init ! 6 refl (tt, tt)) $
-        assigns ! (bin ! (load ! (from ! (fld ! refl (fld ! refl (stop !)))) (look-in ! 22 (sub ! 1 refl (sub ! 1 refl (whole !))))) (load ! (from ! (fld ! refl (stop !))) (look-in ! 16 (sub ! 1 refl (whole !)))) tt) (from ! (stop !)) (init ! 4 refl (tt, tt)) $
+        assigns ! (bin ! (load ! (from ! (fld ! refl (fld ! refl (stop !)))) (look-in ! 22 (sub ! 1 refl (sub ! 1 refl (whole !)))))
+        (load ! (from ! (fld ! refl (stop !))) (look-in ! 16 (sub ! 1 refl (whole !)))) tt) (from ! (stop !)) (init ! 4 refl (tt, tt)) $
         assigns ! (bin ! (load ! (from ! (stop !)) (look ! 6 refl)) (load ! (from ! (stop !)) (look ! 4 refl)) tt) (from ! (stop !)) (store ! 20 refl (tt, tt)) $
         rewrite ! 20 (λ (t : Bool). ‵ (fat fullShare tyBool l₆ 0 (vbool t))) judged refl $
         move ! (2 ∷ 3 ∷ []) $ goes-on 𝓤 H A W mem run κs qs xs 𝓣 ! known-next (length ys) asked k less (i .1 .1)
-        (and-then ! (load ! (from ! (stop !)) (look ! 30 refl)) (and-then ! (load ! (from ! (stop !)) (look ! 28 refl)) (and-then ! (load ! (from ! (stop !)) (look ! 26 refl)) (and-then ! (load ! (from ! (stop !)) (look ! 22 refl)) (no-more !))))) (λ fine good.
+        (and-then ! (load ! (from ! (stop !)) (look ! 30 refl))
+        (and-then ! (load ! (from ! (stop !)) (look ! 28 refl)) (and-then ! (load ! (from ! (stop !)) (look ! 26 refl)) (and-then ! (load ! (from ! (stop !)) (look ! 22 refl)) (no-more !)))))
+        (λ fine good.
         land ! (from ! (stop !)) (store ! 22 refl fine) $
         assigns-last ! (bin ! (load ! (from ! (stop !)) (look ! 18 refl)) (lit ! tt) (record { fits = next-fits })) (from ! (stop !)) (store ! 18 refl (tt, record { fits = next-fits })) $
-        forget ! 4 refl $ forget ! 6 refl $ forget ! 8 refl $ forget ! 10 refl $ forget ! 12 refl $ forget ! 14 refl $ forget ! 16 refl $ again ! Nearer At i (k + 1, (omega arith, good)) (omega arith))))
+        forget ! 4 refl $ forget ! 6 refl $ forget ! 8 refl $ forget ! 10 refl $ forget ! 12 refl $ forget ! 14 refl $ forget ! 16 refl $
+        again ! Nearer At i (k + 1, (omega arith, good)) (omega arith))))
 
     -- the turn that leaves the loop, and the rest of the body
     ends : (i : Upto) → i .0 ≡ n → Sq W (At i) (runs (𝓣 .C) (𝓣 .Λ) En cm.turn-1 (anyQ (Turned i)))
@@ -195,7 +214,8 @@ module _ {M : Type 1} (𝓤 : URA M) (H : Heap 𝓤) (A : Atoms 𝓤) (W : Given
     starts : Sq W (With (‵ (froom word l₇ 0)) (‵ (froom tyBool l₆ 0)) (‵ (froom Walk″.mir l₅ 0))) (runs (𝓣 .C) (𝓣 .Λ) En cm.t-1 (atRet En Post))
     starts =
         begins 𝓤 H A W mem run κs qs xs 𝓣 ! known-first (length ys) asked
-        (and-then ! (load ! (from ! (stop !)) (look ! 30 refl)) (and-then ! (load ! (from ! (stop !)) (look ! 28 refl)) (and-then ! (load ! (from ! (stop !)) (look ! 26 refl)) (no-more !)))) (λ fine good.
+        (and-then ! (load ! (from ! (stop !)) (look ! 30 refl)) (and-then ! (load ! (from ! (stop !)) (look ! 28 refl)) (and-then ! (load ! (from ! (stop !)) (look ! 26 refl)) (no-more !))))
+        (λ fine good.
         land ! (from ! (stop !)) (init ! 22 refl fine) $
         assigns ! (of-opd ! (true-lit !)) (from ! (stop !)) (init ! 20 refl (tt, tt)) $
         assigns ! (of-opd ! (lit ! tt)) (from ! (stop !)) (init ! 18 refl (tt, record { fits = lit< tt })) $
@@ -203,30 +223,43 @@ module _ {M : Type 1} (𝓤 : URA M) (H : Heap 𝓤) (A : Atoms 𝓤) (W : Given
         first ! $ blocks ! $ loops ! 𝓣 Nearer Nearer-wf At turns (0, (zero-le, good)))
 
   walk : (𝓣 : Tables 𝓤 H) → Triple 𝓤 (𝓣 .C first-walk.name) (First 𝓤 H A mem run) → Triple 𝓤 (𝓣 .C next-walk.name) (Next 𝓤 H A mem run)
-      → ent 𝓤 (onEntry 𝓤 H A is-plan.signature (passed .0 .0) (passed .0 .1) (passed .0 .3) (passed .0 .4)) (WpFn 𝓤 H (𝓣 .C) (𝓣 .Λ) code.function (walkOf 𝓤 H A is-plan.ended stayed (is-plan.clauses 𝓤 H A mem run) .args passed) Post)
+      → ent 𝓤 (onEntry 𝓤 H A is-plan.signature (passed .0 .0) (passed .0 .1) (passed .0 .3) (passed .0 .4))
+      (WpFn 𝓤 H (𝓣 .C) (𝓣 .Λ) code.function (walkOf 𝓤 H A is-plan.ended stayed (is-plan.clauses 𝓤 H A mem run) .args passed) Post)
   walk 𝓣 known-first known-next =
       qed W (raw (toks 𝓤 A 4 (lastLft 3 κs κ) (lastShare 3 qs q)) ∷ ‵ (owns (Texts κs ++ (Lent ∷ [])) (passed .0 .3) (passed .0 .4)) ∷ []) ∵
-      use1 W (raw (toks 𝓤 A 3 κs qs) ⊛ ‵ (flft κ q)) (token-out 𝓤 H A W κ q 3 κs qs) $ split ! $ move ! (2 ∷ []) $ use1 W (‵ (texts κs xs) ⊛ ‵ own) (last-out 𝓤 H A W Lent lent (slice ∷ []) (Texts κs) xs (vals xs)) $ split ! $
+      use1 W (raw (toks 𝓤 A 3 κs qs) ⊛ ‵ (flft κ q)) (token-out 𝓤 H A W κ q 3 κs qs) $ split ! $ move ! (2 ∷ []) $
+      use1 W (‵ (texts κs xs) ⊛ ‵ own) (last-out 𝓤 H A W Lent lent (slice ∷ []) (Texts κs) xs (vals xs)) $ split ! $
       -- [the texts; the records; the texts' tokens; the records' token]
       enter ! (𝓣 .C) (𝓣 .Λ) code.function _ _ $
-      alloc1 ! (λ l₀. alloc1 ! (λ l₁. alloc1 ! (λ l₂. alloc1 ! (λ l₃. alloc1 ! (λ l₄. alloc1 ! (λ l₅. alloc1 ! (λ l₆. alloc1 ! (λ l₇. alloc1 ! (λ l₈. alloc1 ! (λ l₉. alloc1 ! (λ l₁₀. alloc1 ! (λ l₁₁. alloc1 ! (λ l₁₂. alloc1 ! (λ l₁₃. alloc1 ! (λ l₁₄. alloc0 ! $ params1 ! $
+      alloc1 ! (λ l₀. alloc1 !
+      (λ l₁. alloc1 ! (λ l₂. alloc1 !
+      (λ l₃. alloc1 ! (λ l₄. alloc1 !
+      (λ l₅. alloc1 ! (λ l₆. alloc1 ! (λ l₇. alloc1 ! (λ l₈. alloc1 ! (λ l₉. alloc1 ! (λ l₁₀. alloc1 ! (λ l₁₁. alloc1 ! (λ l₁₂. alloc1 ! (λ l₁₃. alloc1 ! (λ l₁₄. alloc0 ! $ params1 ! $
       -- [_14; …; _0; …; the texts; the records; the texts' tokens; the records' token]
-      pass1 ! (init ! 26 refl (tt, (tt, (record { fits = g₁ .0 }, tt)))) $ pass1 ! (init ! 24 refl (tt, (tt, (record { fits = g₂ .0 }, tt)))) $ pass1 ! (init ! 22 refl (tt, (tt, (record { fits = g₃ .0 }, tt)))) $ pass1 ! (init ! 20 refl (tt, (tt, (record { fits = gy .0 }, tt)))) $ pass0 ! $
+      pass1 ! (init ! 26 refl (tt, (tt, (record { fits = g₁ .0 }, tt)))) $ pass1 ! (init ! 24 refl (tt, (tt, (record { fits = g₂ .0 }, tt)))) $
+      pass1 ! (init ! 22 refl (tt, (tt, (record { fits = g₃ .0 }, tt)))) $ pass1 ! (init ! 20 refl (tt, (tt, (record { fits = gy .0 }, tt)))) $ pass0 ! $
       move ! (32 ∷ 30 ∷ 33 ∷ 31 ∷ []) $ starts 𝓣 known-first known-next l₀ l₁ l₂ l₃ l₄ l₅ l₆ l₇ l₈ l₉ l₁₀ l₁₁ l₁₂ l₁₃ l₁₄)))))))))))))))
 
-module _ {M : Type 1} (𝓤 : URA M) (H : Heap 𝓤) (A : Atoms 𝓤) (W : Given 𝓤 H A) (mem : Memory → SProp 𝓤) (run : Routine → Fun 𝓤) (𝓣 : Tables 𝓤 H) (known-first : Triple 𝓤 (𝓣 .C first-walk.name) (First 𝓤 H A mem run)) (known-next : Triple 𝓤 (𝓣 .C next-walk.name) (Next 𝓤 H A mem run)) where
+module _ {M : Type 1} (𝓤 : URA M) (H : Heap 𝓤) (A : Atoms 𝓤) (W : Given 𝓤 H A) (mem : Memory → SProp 𝓤) (run : Routine → Fun 𝓤) (𝓣 : Tables 𝓤 H)
+    (known-first : Triple 𝓤 (𝓣 .C first-walk.name) (First 𝓤 H A mem run)) (known-next : Triple 𝓤 (𝓣 .C next-walk.name) (Next 𝓤 H A mem run)) where
   is-plan-walks : Walks 𝓤 H A is-plan.ended stayed (WpFn 𝓤 H (𝓣 .C) (𝓣 .Λ) code.function) (is-plan.clauses 𝓤 H A mem run)
   is-plan-walks =
       walked 𝓤 H A is-plan.ended stayed (is-plan.clauses 𝓤 H A mem run) (WpFn 𝓤 H (𝓣 .C) (𝓣 .Λ) code.function) (λ κs. (slice-vals, (slice-vals, (slice-vals, (slice-vals, tt)))))
       (λ κs. (shr-slice-tells (named 0) (κs .0) u8, (shr-slice-tells (named 1) (κs .1 .0) u8, (shr-slice-tells (named 2) (κs .1 .1 .0) u8, (shr-slice-tells (named 3) (κs .1 .1 .1 .0) R, tt)))))
       (λ κs qs bounds a g are. needs 𝓤 (Asked (a .0, (a .1 .0, (a .1 .1 .0, tt))) (length (a .1 .1 .1 .0 .now))) _ (λ asked.
       walk 𝓤 H A W mem run (κs .0, (κs .1 .0, (κs .1 .1 .0, tt))) (κs .1 .1 .1 .0) (qs .0, (qs .1 .0, (qs .1 .1 .0, tt))) (qs .1 .1 .1 .0) (a .0, (a .1 .0, (a .1 .1 .0, tt)))
-      (a .1 .1 .1 .0 .ptr .0) (a .1 .1 .1 .0 .ptr .1) (a .1 .1 .1 .0 .name) (a .1 .1 .1 .0 .now) (are .0 .0 .1) (are .1 .0 .0 .1) (are .1 .1 .0 .0 .1) (are .1 .1 .1 .0 .0 .1) asked 𝓣 known-first known-next))
+      (a .1 .1 .1 .0 .ptr .0) (a .1 .1 .1 .0 .ptr .1) (a .1 .1 .1 .0 .name) (a .1 .1 .1 .0 .now) (are .0 .0 .1) (are .1 .0 .0 .1) (are .1 .1 .0 .0 .1) (are .1 .1 .1 .0 .0 .1) asked 𝓣 known-first
+      known-next))
 
   is-plan-meets : Meets 𝓤 H A is-plan.signature (WpFn 𝓤 H (𝓣 .C) (𝓣 .Λ) code.function) (is-plan.spec 𝓤 H A mem run)
   is-plan-meets =
-      walk-meets 𝓤 H A is-plan.ended stayed W
-      (goes-none-slice 𝓤 H A W 4 (0 ∷ []) tt (plain (λ _. u8)) yes, (goes-none-slice 𝓤 H A W 4 (1 ∷ []) tt (plain (λ _. u8)) yes, (goes-none-slice 𝓤 H A W 4 (2 ∷ []) tt (plain (λ _. u8)) yes, (goes-none-slice 𝓤 H A W 4 (3 ∷ []) tt (plain (λ _. R)) yes, tt))))
+      walk-meets 𝓤 H A is-plan.ended stayed W (
+        goes-none-slice 𝓤 H A W 4 (0 ∷ []) tt (plain (λ _. u8)) yes,
+        (
+          goes-none-slice 𝓤 H A W 4 (1 ∷ []) tt (plain (λ _. u8)) yes,
+          (goes-none-slice 𝓤 H A W 4 (2 ∷ []) tt (plain (λ _. u8)) yes, (goes-none-slice 𝓤 H A W 4 (3 ∷ []) tt (plain (λ _. R)) yes, tt)),
+        ),
+      )
       (is-plan.clauses 𝓤 H A mem run) (WpFn 𝓤 H (𝓣 .C) (𝓣 .Λ) code.function) (WpFn-mono 𝓤 H (W .laws) 𝓣 code.function) is-plan-walks
 
 pub is-plan-spec : {M : Type 1} → stated.statement M

@@ -23,14 +23,25 @@ next-cluster-requires c κs = (sym (c .before .is-done .ensures) ∙ c .if1 .lef
 
 cast-count : tie.Need-cast-count
 cast-count c =
-    let s = c .before .before .before .before .before .before .before .before in
+    let c8 = c .before .before .before .before .before .before .before .before in
+    let s = c8 in
     let d : done? (s .args .first .now) (s .args .second .now) (s .args .heads) ≡ false = sym (c .before .before .before .before .is-done .ensures) ∙ c .before .before .before .if1 .left in
-    record { fits = omega (arith, s .pre .1, ap (λ (f : Found). f .count) (c .before .before .next-cluster .ensures), count-le (s .args .reference .now) (s .args .first .now) (s .args .second .now) (s .args .heads) d) }
+    record {
+      fits = omega (
+        arith,
+        s .pre .1,
+        ap (λ (f : Found). f .count) (c .before .before .next-cluster .ensures),
+        count-le (s .args .reference .now) (s .args .first .now) (s .args .second .now)
+            (s .args .heads) d,
+      );
+    }
 
 returns-2 : tie.Need-returns-2
 returns-2 c =
-    let s = c .before .before .before .before .before .before .before .before in
-    walk-found (s .args .reference .now) (s .args .first .now) (s .args .second .now) (s .args .i) (s .args .heads) (sym (c .before .before .before .before .is-done .ensures) ∙ c .before .before .before .if1 .left)
+    let c8 = c .before .before .before .before .before .before .before .before in
+    let s = c8 in
+    walk-found (s .args .reference .now) (s .args .first .now) (s .args .second .now) (s .args .i) (s .args .heads)
+    (sym (c .before .before .before .before .is-done .ensures) ∙ c .before .before .before .if1 .left)
     (c .before .before .next-cluster .result) (c .before .before .next-cluster .ensures)
 
 pub walk-from-spec : {M : Type 1} → statement M

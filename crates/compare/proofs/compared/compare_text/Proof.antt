@@ -39,11 +39,14 @@ same-length c = search needs
 
 returns : tie.Need-returns
 returns c =
-    let a = c .before .before .before .before .before .before .before .before .before .before .before .before .before .before .before .before .before .args in
-    let told = c .before .before .before .before .before .before .before .before .before .before .before .mark-files in
+    let c8 = c .before .before .before .before .before .before .before .before in
+    let c16 = c8 .before .before .before .before .before .before .before .before in
+    let a = c16 .before .args in
+    let told = c8 .before .before .before .mark-files in
     let m = told .result in
     let e = told .ensures in
-    let t = text-refused (a .file .now) (a .first .now) (a .second .now) (m .answer) (m .plan) (replicate leastRoom 0) _ (length-replicate {A = ℕ} leastRoom 0) (e .0) (e .1) (e .2) (c .before .before .before .before .before .before .before .if1 .taken) in
+    let t = text-refused (a .file .now) (a .first .now) (a .second .now) (m .answer) (m .plan) (replicate leastRoom 0) _ (length-replicate {A = ℕ} leastRoom 0) (e .0) (e .1) (e .2)
+    (c .before .before .before .before .before .before .before .if1 .taken) in
     let w = c .before .before .refused-text .ensures in
     (w .0 ∙ ap length (sym t), w .1 ∙ ap (put (a .out .now) 0) (sym t))
 
@@ -58,22 +61,26 @@ cast-make-text-2 c = search needs
 
 make-text-requires : tie.Need-make-text-requires
 make-text-requires c κs =
-    let a = c .before .before .before .before .before .before .before .before .before .before .before .before .before .before .before .args in
-    let told = c .before .before .before .before .before .before .before .before .before .mark-files in
+    let c8 = c .before .before .before .before .before .before .before .before in
+    let a = c8 .before .before .before .before .before .before .before .args in
+    let told = c8 .before .mark-files in
     let m = told .result in
     let e = told .ensures in
-    text-makes (a .file .now) (a .first .now) (a .second .now) (m .answer) (m .plan) (replicate leastRoom 0) _ (length-replicate {A = ℕ} leastRoom 0) (e .0) (e .1) (e .2) (c .before .before .before .before .before .if1 .left) _ (c .before .before .before .before .before .before .before .before .before .before .before .before .before .before .before .pre)
+    text-makes (a .file .now) (a .first .now) (a .second .now) (m .answer) (m .plan) (replicate leastRoom 0) _ (length-replicate {A = ℕ} leastRoom 0) (e .0) (e .1) (e .2)
+    (c .before .before .before .before .before .if1 .left) _ (c8 .before .before .before .before .before .before .before .pre)
 
 same-length-2 : tie.Need-same-length-2
 same-length-2 c = search needs
 
 returns-2 : tie.Need-returns-2
 returns-2 c =
-    let a = c .before .before .before .before .before .before .before .before .before .before .before .before .before .before .before .before .before .before .args in
-    let told = c .before .before .before .before .before .before .before .before .before .before .before .before .mark-files in
+    let c8 = c .before .before .before .before .before .before .before .before in
+    let c16 = c8 .before .before .before .before .before .before .before .before in
+    let a = c16 .before .before .args in
+    let told = c8 .before .before .before .before .mark-files in
     let m = told .result in
     let e = told .ensures in
-    let t = text-accepted (a .file .now) (a .first .now) (a .second .now) (m .answer) (m .plan) (replicate leastRoom 0) _ (length-replicate {A = ℕ} leastRoom 0) (e .0) (e .1) (e .2) (c .before .before .before .before .before .before .before .before .if1 .left) in
+    let t = text-accepted (a .file .now) (a .first .now) (a .second .now) (m .answer) (m .plan) (replicate leastRoom 0) _ (length-replicate {A = ℕ} leastRoom 0) (e .0) (e .1) (e .2) (c8 .if1 .left) in
     let w = c .before .before .make-text .ensures in
     (w .0 ∙ ap length t, w .1 ∙ ap (put (a .out .now) 0) t)
 

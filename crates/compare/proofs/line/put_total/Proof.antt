@@ -23,9 +23,20 @@ put-fields-requires c κs = search needs
 
 put-field-requires : tie.Need-put-field-requires
 put-field-requires c κs =
-    let s = c .before .before .before .before .before .before .before .before .before .before .before in
-    let t = s .args .totals in
-    (s .pre .1, omega (arith, s .pre .2, c .before .before .before .before .before .before .before .put-bytes .ensures .0, c .before .before .before .before .before .before .before .put-bytes .kept .1 .0, c .before .before .before .put-fields .ensures .0, c .before .before .before .put-fields .kept .1 .1 .1 .1 .0, fields-few (t .matched) (t .unmatched) (t .undecided) TAB))
+    let c8 = c .before .before .before .before .before .before .before .before in
+    let s = c8 .before .before .before in
+    let t = s .args .totals in (
+      s .pre .1,
+      omega (
+        arith,
+        s .pre .2,
+        c .before .before .before .before .before .before .before .put-bytes .ensures .0,
+        c .before .before .before .before .before .before .before .put-bytes .kept .1 .0,
+        c .before .before .before .put-fields .ensures .0,
+        c .before .before .before .put-fields .kept .1 .1 .1 .1 .0,
+        fields-few (t .matched) (t .unmatched) (t .undecided) TAB,
+      ),
+    )
 
 same-length : tie.Need-same-length
 same-length c = search needs

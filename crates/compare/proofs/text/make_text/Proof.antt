@@ -53,77 +53,106 @@ cast-count c = search needs
 
 put-cluster-requires : tie.Need-put-cluster-requires Inv-loop μ-loop
 put-cluster-requires c κs =
-    let s = c .before .before .before .before .before .before .before .before .before .before .before .before .before .before in
+    let c8 = c .before .before .before .before .before .before .before .before in
+    let s = c8 .before .before .before .before .before .before in
     let a = s .args in
     let l = c .before .before .before .before .loop in
-    let p = c .before .before .before .before .before .before .before .before .put-heading in
+    let p = c8 .put-heading in
     let all : a .clusters ≤ length (a .t3) = omega (arith, s .pre .few-clusters, s .good .1 .1 .0 .1 .0 .1) in
-    let fits = printing-fits (a .first .now) (a .second .now) (a .marks .now) (a .t3) (a .clusters) (a .score) (p .last .0) (p .result) all (l .heads) (l .i) (l .k) (l .out) (l .at) (l .inv) (c .before .before .before .loop-test .taken) none in
-    (l .inv .readable, fits, omega (arith, s .pre .few-clusters, c .before .before .before .loop-test .taken), omega (arith, fits, l .inv .passed, s .pre .marked), omega (arith, fits, l .inv .room, l .inv .left .same))
+    let fits = printing-fits (a .first .now) (a .second .now) (a .marks .now) (a .t3) (a .clusters) (a .score) (p .last .0) (p .result) all (l .heads) (l .i) (l .k) (l .out) (l .at) (l .inv)
+    (c .before .before .before .loop-test .taken) none in (
+      l .inv .readable,
+      fits,
+      omega (arith, s .pre .few-clusters, c .before .before .before .loop-test .taken),
+      omega (arith, fits, l .inv .passed, s .pre .marked),
+      omega (arith, fits, l .inv .room, l .inv .left .same),
+    )
 
 add-i : tie.Need-add-i Inv-loop μ-loop
 add-i c =
-    let s = c .before .before .before .before .before .before .before .before .before .before .before .before .before .before .before .before .before .before in
+    let c8 = c .before .before .before .before .before .before .before .before in
+    let c16 = c8 .before .before .before .before .before .before .before .before in
+    let s = c16 .before .before in
     let a = s .args in
-    let l = c .before .before .before .before .before .before .before .before .loop in
-    let p = c .before .before .before .before .before .before .before .before .before .before .before .before .put-heading in
+    let l = c8 .loop in
+    let p = c8 .before .before .before .before .put-heading in
     let all : a .clusters ≤ length (a .t3) = omega (arith, s .pre .few-clusters, s .good .1 .1 .0 .1 .0 .1) in
-    let fits = printing-fits (a .first .now) (a .second .now) (a .marks .now) (a .t3) (a .clusters) (a .score) (p .last .0) (p .result) all (l .heads) (l .i) (l .k) (l .out) (l .at) (l .inv) (c .before .before .before .before .before .before .before .loop-test .taken) none in
+    let fits = printing-fits (a .first .now) (a .second .now) (a .marks .now) (a .t3) (a .clusters) (a .score) (p .last .0) (p .result) all (l .heads) (l .i) (l .k) (l .out) (l .at) (l .inv)
+    (c .before .before .before .before .before .before .before .loop-test .taken) none in
     record { fits = omega (arith, fits, l .inv .passed, s .pre .few-entries) }
 
 add-k : tie.Need-add-k Inv-loop μ-loop
-add-k c = omega (arith, c .before .before .before .before .before .before .before .before .before .before .before .before .before .before .before .before .before .before .pre .few-clusters, c .before .before .before .before .before .before .before .loop-test .taken)
+add-k c =
+    let c8 = c .before .before .before .before .before .before .before .before in
+    let c16 = c8 .before .before .before .before .before .before .before .before in
+    omega (arith, c16 .before .before .pre .few-clusters, c .before .before .before .before .before .before .before .loop-test .taken)
 
 loop-less : tie.Need-loop-less Inv-loop μ-loop
 loop-less c = omega (arith, c .before .before .before .before .before .before .before .loop-test .taken)
 
 loop-again : tie.Need-loop-again Inv-loop μ-loop
 loop-again c =
-    let s = c .before .before .before .before .before .before .before .before .before .before .before .before .before .before .before .before .before .before in
+    let c8 = c .before .before .before .before .before .before .before .before in
+    let c16 = c8 .before .before .before .before .before .before .before .before in
+    let s = c16 .before .before in
     let a = s .args in
-    let l = c .before .before .before .before .before .before .before .before .loop in
-    let p = c .before .before .before .before .before .before .before .before .before .before .before .before .put-heading in
+    let l = c8 .loop in
+    let p = c8 .before .before .before .before .put-heading in
     let q = c .before .before .before .put-cluster in
     let all : a .clusters ≤ length (a .t3) = omega (arith, s .pre .few-clusters, s .good .1 .1 .0 .1 .0 .1) in
     rw (q .ensures .0)
-    (printing-more (a .first .now) (a .second .now) (a .marks .now) (a .t3) (a .clusters) (a .score) (p .last .0) (p .result) all (l .heads) (l .i) (l .k) (l .out) (l .at) (l .inv) (c .before .before .before .before .before .before .before .loop-test .taken) none
+    (printing-more (a .first .now) (a .second .now) (a .marks .now) (a .t3) (a .clusters) (a .score) (p .last .0) (p .result) all (l .heads) (l .i) (l .k) (l .out) (l .at) (l .inv)
+    (c .before .before .before .before .before .before .before .loop-test .taken) none
     (s .pre .marked) (q .result .at) (q .last .1 .1 .1 .1 .1 .1 .1 .0) (q .ensures .1, q .ensures .2))
 
 count-all-requires : tie.Need-count-all-requires Inv-loop μ-loop
 count-all-requires c κs =
-    let s = c .before .before .before .before .before .before .before .before .before .before .before in
+    let c8 = c .before .before .before .before .before .before .before .before in
+    let s = c8 .before .before .before in
     let a = s .args in
     let l = c .before .loop in
     let p = c .before .before .before .before .before .put-heading in
     let all : a .clusters ≤ length (a .t3) = omega (arith, s .pre .few-clusters, s .good .1 .1 .0 .1 .0 .1) in
-    let n = printing-all (a .first .now) (a .second .now) (a .marks .now) (a .t3) (a .clusters) (a .score) (p .last .0) (p .result) all (l .heads) (l .i) (l .k) (l .out) (l .at) (l .inv) (c .loop-test .left) in
+    let n = printing-all (a .first .now) (a .second .now) (a .marks .now) (a .t3) (a .clusters) (a .score) (p .last .0) (p .result) all (l .heads) (l .i) (l .k) (l .out) (l .at) (l .inv)
+    (c .loop-test .left) in
     (omega (arith, n, s .pre .marked), omega (arith, n, s .pre .few-entries))
 
 put-total-requires : tie.Need-put-total-requires Inv-loop μ-loop
 put-total-requires c κs =
-    let s = c .before .before .before .before .before .before .before .before .before .before .before .before .before in
+    let c8 = c .before .before .before .before .before .before .before .before in
+    let s = c8 .before .before .before .before .before in
     let a = s .args in
     let l = c .before .before .before .loop in
     let p = c .before .before .before .before .before .before .before .put-heading in
     let all : a .clusters ≤ length (a .t3) = omega (arith, s .pre .few-clusters, s .good .1 .1 .0 .1 .0 .1) in
-    let n = printing-all (a .first .now) (a .second .now) (a .marks .now) (a .t3) (a .clusters) (a .score) (p .last .0) (p .result) all (l .heads) (l .i) (l .k) (l .out) (l .at) (l .inv) (c .before .before .loop-test .left) in
-    (rw (c .before .count-all .ensures) (count-few (a .marks .now) (l .i) (omega (arith, n, s .pre .marked)) (omega (arith, n, s .pre .few-entries))), s .pre .printable, omega (arith, l .inv .room, l .inv .left .same))
+    let n = printing-all (a .first .now) (a .second .now) (a .marks .now) (a .t3) (a .clusters) (a .score) (p .last .0) (p .result) all (l .heads) (l .i) (l .k) (l .out) (l .at) (l .inv)
+    (c .before .before .loop-test .left) in (
+      rw (c .before .count-all .ensures) (count-few (a .marks .now) (l .i) (omega (arith, n, s .pre .marked)) (omega (arith, n, s .pre .few-entries))),
+      s .pre .printable,
+      omega (arith, l .inv .room, l .inv .left .same),
+    )
 
 same-length : tie.Need-same-length Inv-loop μ-loop
-same-length c = omega (arith, c .before .before .put-total .kept .1 .1 .0, c .before .before .before .before .before .before .loop .inv .left .same, c .before .before .before .before .before .before .before .before .before .before .put-heading .kept .0)
+same-length c =
+    let c8 = c .before .before .before .before .before .before .before .before in
+    omega (arith, c .before .before .put-total .kept .1 .1 .0, c .before .before .before .before .before .before .loop .inv .left .same, c8 .before .before .put-heading .kept .0)
 
 returns : tie.Need-returns Inv-loop μ-loop
 returns c =
-    let s = c .before .before .before .before .before .before .before .before .before .before .before .before .before .before .before .before in
+    let c8 = c .before .before .before .before .before .before .before .before in
+    let c16 = c8 .before .before .before .before .before .before .before .before in
+    let s = c16 in
     let a = s .args in
     let is = mergedItems (a .first .now) (a .second .now) in
     let l = c .before .before .before .before .before .before .loop in
-    let p = c .before .before .before .before .before .before .before .before .before .before .put-heading in
+    let p = c8 .before .before .put-heading in
     let q = c .before .before .put-total in
     let z = c .before .before .before .before .count-all in
     let all : a .clusters ≤ length (a .t3) = omega (arith, s .pre .few-clusters, s .good .1 .1 .0 .1 .0 .1) in
-    let left = printing-end (a .first .now) (a .second .now) (a .marks .now) (a .t3) (a .clusters) (a .score) (p .last .0) (p .result) all (l .heads) (l .i) (l .k) (l .out) (l .at) (l .inv) (c .before .before .before .before .before .loop-test .left) in
-    let n = printing-all (a .first .now) (a .second .now) (a .marks .now) (a .t3) (a .clusters) (a .score) (p .last .0) (p .result) all (l .heads) (l .i) (l .k) (l .out) (l .at) (l .inv) (c .before .before .before .before .before .loop-test .left) in
+    let left = printing-end (a .first .now) (a .second .now) (a .marks .now) (a .t3) (a .clusters) (a .score) (p .last .0) (p .result) all (l .heads) (l .i) (l .k) (l .out) (l .at) (l .inv)
+    (c .before .before .before .before .before .loop-test .left) in
+    let n = printing-all (a .first .now) (a .second .now) (a .marks .now) (a .t3) (a .clusters) (a .score) (p .last .0) (p .result) all (l .heads) (l .i) (l .k) (l .out) (l .at) (l .inv)
+    (c .before .before .before .before .before .loop-test .left) in
     let sums : z .result ≡ totals (countsOf is (a .marks .now)) = z .ensures ∙ ap (λ (k : ℕ). countAll (take k (a .marks .now))) n ∙ sym (totals-all is (a .marks .now) (s .pre .marked)) in
     let w = left-last _ _ _ (l .out) (l .at) (totalLine (totals (countsOf is (a .marks .now))) (a .score)) (q .result) (q .last .1 .1 .0) left (rw sums at (q .ensures)) in
     text-wrote (take (a .clusters) (a .t3)) is (a .marks .now) (a .score) (a .out .now) (p .result) (p .last .0) (q .result) (q .last .1 .1 .0) (p .ensures) w

@@ -27,7 +27,8 @@ next-item-requires : tie.Need-next-item-requires Inv-loop μ-loop
 next-item-requires c κs =
     let a = c .before .before .before .before .before .before .args in
     let l = c .before .loop in
-    let d = putting-left (a .first .now) (a .second .now) (a .marks .now) (a .cluster) (a .count) (a .i) (a .heads) (a .out .now) (a .at) (l .head) (l .k) (l .out) (l .next) (l .inv) (c .loop-test .taken) in
+    let d = putting-left (a .first .now) (a .second .now) (a .marks .now) (a .cluster) (a .count) (a .i) (a .heads) (a .out .now) (a .at) (l .head) (l .k) (l .out) (l .next) (l .inv)
+    (c .loop-test .taken) in
     (d, l .inv .readable .readable1, l .inv .readable .readable2)
 
 add-put-entry : tie.Need-add-put-entry Inv-loop μ-loop
@@ -38,34 +39,41 @@ shared-slice-read-put-entry c = omega (arith, c .before .before .before .before 
 
 put-entry-requires : tie.Need-put-entry-requires Inv-loop μ-loop
 put-entry-requires c κs =
-    let s = c .before .before .before .before .before .before .before .before .before .before in
+    let c8 = c .before .before .before .before .before .before .before .before in
+    let s = c8 .before .before in
     let a = s .args in
     let l = c .before .before .before .before .before .loop in
-    let d = putting-left (a .first .now) (a .second .now) (a .marks .now) (a .cluster) (a .count) (a .i) (a .heads) (a .out .now) (a .at) (l .head) (l .k) (l .out) (l .next) (l .inv) (c .before .before .before .before .loop-test .taken) in
+    let d = putting-left (a .first .now) (a .second .now) (a .marks .now) (a .cluster) (a .count) (a .i) (a .heads) (a .out .now) (a .at) (l .head) (l .k) (l .out) (l .next) (l .inv)
+    (c .before .before .before .before .loop-test .taken) in
     let p = next-pos (a .first .now) (a .second .now) (l .head) d in
     (omega (arith, p, ap keyOf (c .before .before .before .next-item .ensures)), s .pre .2, omega (arith, l .inv .room, l .inv .left .same, c .before .before .before .before .loop-test .taken))
 
 after-requires : tie.Need-after-requires Inv-loop μ-loop
 after-requires c κs =
-    let a = c .before .before .before .before .before .before .before .before .before .before .before .before .before .args in
-    let l = c .before .before .before .before .before .before .before .before .loop in
-    let d = putting-left (a .first .now) (a .second .now) (a .marks .now) (a .cluster) (a .count) (a .i) (a .heads) (a .out .now) (a .at) (l .head) (l .k) (l .out) (l .next) (l .inv) (c .before .before .before .before .before .before .before .loop-test .taken) in
+    let c8 = c .before .before .before .before .before .before .before .before in
+    let a = c8 .before .before .before .before .before .args in
+    let l = c8 .loop in
+    let d = putting-left (a .first .now) (a .second .now) (a .marks .now) (a .cluster) (a .count) (a .i) (a .heads) (a .out .now) (a .at) (l .head) (l .k) (l .out) (l .next) (l .inv)
+    (c .before .before .before .before .before .before .before .loop-test .taken) in
     rw (c .before .before .before .before .before .before .next-item .ensures) (items-step (a .first .now) (a .second .now) (l .head) d .inside)
 
 add-k : tie.Need-add-k Inv-loop μ-loop
-add-k c = omega (arith, c .before .before .before .before .before .before .before .before .loop-test .taken, c .before .before .before .before .before .before .before .before .before .before .before .before .before .before .fits .count)
+add-k c =
+    let c8 = c .before .before .before .before .before .before .before .before in
+    omega (arith, c8 .loop-test .taken, c8 .before .before .before .before .before .before .fits .count)
 
 loop-less : tie.Need-loop-less Inv-loop μ-loop
 loop-less c = omega (arith, c .before .before .before .before .before .before .before .before .loop-test .taken)
 
 loop-again : tie.Need-loop-again Inv-loop μ-loop
 loop-again c =
-    let s = c .before .before .before .before .before .before .before .before .before .before .before .before .before .before in
+    let c8 = c .before .before .before .before .before .before .before .before in
+    let s = c8 .before .before .before .before .before .before in
     let a = s .args in
-    let l = c .before .before .before .before .before .before .before .before .before .loop in
+    let l = c8 .before .loop in
     let p = c .before .before .before .put-entry in
     rw (c .after .ensures, c .before .before .before .before .before .before .before .next-item .ensures)
-    (putting-more (a .first .now) (a .second .now) (a .marks .now) (a .cluster) (a .count) (a .i) (a .heads) (a .out .now) (a .at) (l .head) (l .k) (l .out) (l .next) (l .inv) (c .before .before .before .before .before .before .before .before .loop-test .taken)
+    (putting-more (a .first .now) (a .second .now) (a .marks .now) (a .cluster) (a .count) (a .i) (a .heads) (a .out .now) (a .at) (l .head) (l .k) (l .out) (l .next) (l .inv) (c8 .loop-test .taken)
     (s .pre .3) (p .result) (p .last .1 .1 .1 .1 .0) (rw (c .before .before .before .before .before .before .before .next-item .ensures) at (p .ensures)))
 
 same-length : tie.Need-same-length Inv-loop μ-loop

@@ -39,11 +39,14 @@ same-length c = search needs
 
 returns : tie.Need-returns
 returns c =
-    let a = c .before .before .before .before .before .before .before .before .before .before .before .before .before .before .before .before .before .args in
-    let told = c .before .before .before .before .before .before .before .before .before .before .before .mark-files in
+    let c8 = c .before .before .before .before .before .before .before .before in
+    let c16 = c8 .before .before .before .before .before .before .before .before in
+    let a = c16 .before .args in
+    let told = c8 .before .before .before .mark-files in
     let m = told .result in
     let e = told .ensures in
-    let t = text-refused (a .file .now) (a .first .now) (a .second .now) (m .answer) (replicate leastRoom 0) _ (length-replicate {A = ℕ} leastRoom 0) (e .0) (e .2) (c .before .before .before .before .before .before .before .if1 .taken) in
+    let t = text-refused (a .file .now) (a .first .now) (a .second .now) (m .answer) (replicate leastRoom 0) _ (length-replicate {A = ℕ} leastRoom 0) (e .0) (e .2)
+    (c .before .before .before .before .before .before .before .if1 .taken) in
     let w = c .before .before .refused-text .ensures in
     (w .0 ∙ ap length (sym t), w .1 ∙ ap (put (a .out .now) 0) (sym t))
 
@@ -60,25 +63,30 @@ count-lists-requires c κs =
 
 put-counts-requires : tie.Need-put-counts-requires
 put-counts-requires c κs =
-    let a = c .before .before .before .before .before .before .before .before .before .before .before .before .before .args in
+    let c8 = c .before .before .before .before .before .before .before .before in
+    let a = c8 .before .before .before .before .before .args in
     let told = c .before .before .before .before .before .before .before .mark-files in
     let m = told .result in
     let e = told .ensures in
     let n = c .before .count-lists in
-    let few = text-few (a .file .now) (a .first .now) (a .second .now) (m .answer) (replicate leastRoom 0) _ (length-replicate {A = ℕ} leastRoom 0) (e .0) (e .2) (c .before .before .before .if1 .left) (n .result) (n .ensures) in
-    (few .0, few .1, c .before .before .before .before .before .before .before .before .before .before .before .before .before .pre)
+    let few = text-few (a .file .now) (a .first .now) (a .second .now) (m .answer) (replicate leastRoom 0) _ (length-replicate {A = ℕ} leastRoom 0) (e .0) (e .2) (c .before .before .before .if1 .left)
+    (n .result) (n .ensures) in
+    (few .0, few .1, c8 .before .before .before .before .before .pre)
 
 same-length-2 : tie.Need-same-length-2
 same-length-2 c = search needs
 
 returns-2 : tie.Need-returns-2
 returns-2 c =
-    let a = c .before .before .before .before .before .before .before .before .before .before .before .before .before .before .before .before .args in
-    let told = c .before .before .before .before .before .before .before .before .before .before .mark-files in
+    let c8 = c .before .before .before .before .before .before .before .before in
+    let c16 = c8 .before .before .before .before .before .before .before .before in
+    let a = c16 .args in
+    let told = c8 .before .before .mark-files in
     let m = told .result in
     let e = told .ensures in
     let n = c .before .before .before .before .count-lists in
-    let t = text-accepted (a .file .now) (a .first .now) (a .second .now) (m .answer) (replicate leastRoom 0) _ (length-replicate {A = ℕ} leastRoom 0) (e .0) (e .2) (c .before .before .before .before .before .before .if1 .left) (n .result) (n .ensures) in
+    let t = text-accepted (a .file .now) (a .first .now) (a .second .now) (m .answer) (replicate leastRoom 0) _ (length-replicate {A = ℕ} leastRoom 0) (e .0) (e .2)
+    (c .before .before .before .before .before .before .if1 .left) (n .result) (n .ensures) in
     let w = c .before .before .put-counts .ensures in
     (w .0 ∙ ap length t, w .1 ∙ ap (put (a .out .now) 0) t)
 

@@ -58,57 +58,76 @@ array-read-add-row-2 c = omega (arith, c .before .before .before .before .before
 
 add-row-requires-2 : tie.Need-add-row-requires-2 Inv-loop μ-loop
 add-row-requires-2 c κs =
-    let s = c .before .before .before .before .before .before .before .before .before .before .before .before .before .before .before .before in
-    let e = sym (c .before .before .before .before .before .before .before .is-chosen .ensures) ∙ not-false (c .before .before .before .before .before .before .before .is-chosen .result) (c .before .before .before .before .before .before .if1 .left) in
-    (omega (arith, s .pre .0 .rows), e, two-fits (s .pre .0) (s .pre .1) (c .before .before .before .before .before .before .before .before .loop-test .taken) (c .before .before .before .before .before .before .before .before .before .loop .inv .1))
+    let c8 = c .before .before .before .before .before .before .before .before in
+    let c16 = c8 .before .before .before .before .before .before .before .before in
+    let s = c16 in
+    let e = sym (c .before .before .before .before .before .before .before .is-chosen .ensures)
+    ∙ not-false (c .before .before .before .before .before .before .before .is-chosen .result) (c .before .before .before .before .before .before .if1 .left) in
+    (omega (arith, s .pre .0 .rows), e, two-fits (s .pre .0) (s .pre .1) (c8 .loop-test .taken) (c8 .before .loop .inv .1))
 
 agree-behind-requires : tie.Need-agree-behind-requires Inv-loop μ-loop
 agree-behind-requires c κs =
-    let s = c .before .before .before .before .before .before .before .before .before .before .before .before .before .before .before .before .before .before .before .before .before in
-    let w = c .before .before .before .before .before .before .before .before .before .before .before .before .before .before .loop .inv .1 in
-    let p = c .before .before .before .before .before .before .before .before .add-row .ensures in
+    let c8 = c .before .before .before .before .before .before .before .before in
+    let c16 = c8 .before .before .before .before .before .before .before .before in
+    let s = c16 .before .before .before .before .before in
+    let w = c8 .before .before .before .before .before .before .loop .inv .1 in
+    let p = c8 .add-row .ensures in
     let q = c .before .before .before .before .add-row2 .ensures in
-    added-seen (s .pre .0) (s .pre .1) (c .before .before .before .before .before .before .before .before .before .before .before .before .before .loop-test .taken) w (p .0) (p .1) (q .0) (q .1) _ (c .before .before .before .before .before .before .before .before .before .before .shorter .ensures)
+    added-seen (s .pre .0) (s .pre .1) (c8 .before .before .before .before .before .loop-test .taken) w (p .0) (p .1) (q .0) (q .1) _ (c8 .before .before .shorter .ensures)
 
 same-length : tie.Need-same-length Inv-loop μ-loop
 same-length c =
-    let s = c .before .before .before .before .before .before .before .before .before .before .before .before .before .before .before .before .before .before .before .before .before .before .before in
-    let w = c .before .before .before .before .before .before .before .before .before .before .before .before .before .before .before .before .loop .inv .1 in
-    let p = c .before .before .before .before .before .before .before .before .before .before .add-row .ensures in
+    let c8 = c .before .before .before .before .before .before .before .before in
+    let c16 = c8 .before .before .before .before .before .before .before .before in
+    let s = c16 .before .before .before .before .before .before .before in
+    let w = c16 .loop .inv .1 in
+    let p = c8 .before .before .add-row .ensures in
     let q = c .before .before .before .before .before .before .add-row2 .ensures in
-    added-space (s .pre .0) (s .pre .1) (c .before .before .before .before .before .before .before .before .before .before .before .before .before .before .before .loop-test .taken) w (p .0) (p .1) (q .0) (q .1) .0
+    added-space (s .pre .0) (s .pre .1) (c8 .before .before .before .before .before .before .before .loop-test .taken) w (p .0) (p .1) (q .0) (q .1) .0
 
 same-length-2 : tie.Need-same-length-2 Inv-loop μ-loop
 same-length-2 c =
-    let s = c .before .before .before .before .before .before .before .before .before .before .before .before .before .before .before .before .before .before .before .before .before .before .before in
-    let w = c .before .before .before .before .before .before .before .before .before .before .before .before .before .before .before .before .loop .inv .1 in
-    let p = c .before .before .before .before .before .before .before .before .before .before .add-row .ensures in
+    let c8 = c .before .before .before .before .before .before .before .before in
+    let c16 = c8 .before .before .before .before .before .before .before .before in
+    let s = c16 .before .before .before .before .before .before .before in
+    let w = c16 .loop .inv .1 in
+    let p = c8 .before .before .add-row .ensures in
     let q = c .before .before .before .before .before .before .add-row2 .ensures in
-    added-space (s .pre .0) (s .pre .1) (c .before .before .before .before .before .before .before .before .before .before .before .before .before .before .before .loop-test .taken) w (p .0) (p .1) (q .0) (q .1) .1
+    added-space (s .pre .0) (s .pre .1) (c8 .before .before .before .before .before .before .before .loop-test .taken) w (p .0) (p .1) (q .0) (q .1) .1
 
 returns : tie.Need-returns Inv-loop μ-loop
 returns c =
-    let s = c .before .before .before .before .before .before .before .before .before .before .before .before .before .before .before .before .before .before .before .before .before .before .before in
-    let w = c .before .before .before .before .before .before .before .before .before .before .before .before .before .before .before .before .loop .inv .1 in
-    let p = c .before .before .before .before .before .before .before .before .before .before .add-row .ensures in
+    let c8 = c .before .before .before .before .before .before .before .before in
+    let c16 = c8 .before .before .before .before .before .before .before .before in
+    let s = c16 .before .before .before .before .before .before .before in
+    let w = c16 .loop .inv .1 in
+    let p = c8 .before .before .add-row .ensures in
     let q = c .before .before .before .before .before .before .add-row2 .ensures in
     let e = sym (c .before .agree-behind .ensures) ∙ not-true (c .before .agree-behind .result) (c .if2 .taken) in
-    sym (added-stop (s .pre .0) (s .pre .1) (c .before .before .before .before .before .before .before .before .before .before .before .before .before .before .before .loop-test .taken) w (p .0) (p .1) (q .0) (q .1) _ e)
+    sym (added-stop (s .pre .0) (s .pre .1) (c8 .before .before .before .before .before .before .before .loop-test .taken) w (p .0) (p .1) (q .0) (q .1) _ e)
 
 add-i-2 : tie.Need-add-i-2 Inv-loop μ-loop
-add-i-2 c = omega (arith, c .before .before .before .before .before .before .before .before .before .before .before .before .before .before .before .loop-test .taken, c .before .before .before .before .before .before .before .before .before .before .before .before .before .before .before .before .before .before .before .before .before .before .before .pre .0 .few)
+add-i-2 c =
+    let c8 = c .before .before .before .before .before .before .before .before in
+    let c16 = c8 .before .before .before .before .before .before .before .before in
+    omega (arith, c8 .before .before .before .before .before .before .before .loop-test .taken, c16 .before .before .before .before .before .before .before .pre .0 .few)
 
 loop-less-2 : tie.Need-loop-less-2 Inv-loop μ-loop
 loop-less-2 c = omega (arith, c .before .before .before .before .before .before .before .before .before .before .before .before .before .before .before .loop-test .taken)
 
 loop-again-2 : tie.Need-loop-again-2 Inv-loop μ-loop
 loop-again-2 c =
-    let s = c .before .before .before .before .before .before .before .before .before .before .before .before .before .before .before .before .before .before .before .before .before .before .before in
-    let w = c .before .before .before .before .before .before .before .before .before .before .before .before .before .before .before .before .loop .inv .1 in
-    let p = c .before .before .before .before .before .before .before .before .before .before .add-row .ensures in
+    let c8 = c .before .before .before .before .before .before .before .before in
+    let c16 = c8 .before .before .before .before .before .before .before .before in
+    let s = c16 .before .before .before .before .before .before .before in
+    let w = c16 .loop .inv .1 in
+    let p = c8 .before .before .add-row .ensures in
     let q = c .before .before .before .before .before .before .add-row2 .ensures in
-    let e = sym (c .before .agree-behind .ensures) ∙ not-false (c .before .agree-behind .result) (c .if2 .left) in
-    (omega (arith, c .before .before .before .before .before .before .before .before .before .before .before .before .before .before .before .loop-test .taken), added-more (s .pre .0) (s .pre .1) (c .before .before .before .before .before .before .before .before .before .before .before .before .before .before .before .loop-test .taken) w (p .0) (p .1) (q .0) (q .1) _ (c .before .before .before .before .before .before .before .before .before .before .before .before .shorter .ensures) e)
+    let e = sym (c .before .agree-behind .ensures) ∙ not-false (c .before .agree-behind .result) (c .if2 .left) in (
+      omega (arith, c8 .before .before .before .before .before .before .before .loop-test .taken),
+      added-more (s .pre .0) (s .pre .1)
+          (c8 .before .before .before .before .before .before .before .loop-test .taken) w (p .0) (p .1) (q .0) (q .1) _ (c8 .before .before .before .before .shorter .ensures) e,
+    )
 
 shorter-requires-2 : tie.Need-shorter-requires-2 Inv-loop μ-loop
 shorter-requires-2 c κs = search needs
@@ -127,11 +146,13 @@ add-rest-requires-2 c κs =
 
 agree-behind-requires-2 : tie.Need-agree-behind-requires-2 Inv-loop μ-loop
 agree-behind-requires-2 c κs =
-    let s = c .before .before .before .before .before .before .before .before .before .before .before .before .before .before .before .before .before .before .before in
-    let w = c .before .before .before .before .before .before .before .before .before .before .before .before .loop .inv .1 in
-    let p = c .before .before .before .before .before .before .before .before .add-rest .ensures in
+    let c8 = c .before .before .before .before .before .before .before .before in
+    let c16 = c8 .before .before .before .before .before .before .before .before in
+    let s = c16 .before .before .before in
+    let w = c8 .before .before .before .before .loop .inv .1 in
+    let p = c8 .add-rest .ensures in
     let q = c .before .before .before .before .add-rest2 .ensures in
-    last-seen (s .pre .0) (s .pre .1) (c .before .before .before .before .before .before .before .before .before .before .before .loop-test .left) w (p .0) (p .1) (q .0) (q .1) _ (c .before .before .before .before .before .before .before .before .before .before .shorter2 .ensures)
+    last-seen (s .pre .0) (s .pre .1) (c8 .before .before .before .loop-test .left) w (p .0) (p .1) (q .0) (q .1) _ (c8 .before .before .shorter2 .ensures)
 
 same-length-3 : tie.Need-same-length-3 Inv-loop μ-loop
 same-length-3 c =
@@ -151,11 +172,14 @@ same-length-4 c =
 
 returns-2 : tie.Need-returns-2 Inv-loop μ-loop
 returns-2 c =
-    let s = c .before .before .before .before .before .before .before .before .before .before .before .before .before .before .before .before .before .before .before .before in
-    let w = c .before .before .before .before .before .before .before .before .before .before .before .before .before .loop .inv .1 in
-    let p = c .before .before .before .before .before .before .before .before .before .add-rest .ensures in
+    let c8 = c .before .before .before .before .before .before .before .before in
+    let c16 = c8 .before .before .before .before .before .before .before .before in
+    let s = c16 .before .before .before .before in
+    let w = c8 .before .before .before .before .before .loop .inv .1 in
+    let p = c8 .before .add-rest .ensures in
     let q = c .before .before .before .before .before .add-rest2 .ensures in
-    rw (c .agree-behind2 .ensures) (last-answer (s .pre .0) (s .pre .1) (c .before .before .before .before .before .before .before .before .before .before .before .before .loop-test .left) w (p .0) (p .1) (q .0) (q .1) _ (c .before .before .before .before .before .before .before .before .before .before .before .shorter2 .ensures))
+    rw (c .agree-behind2 .ensures)
+    (last-answer (s .pre .0) (s .pre .1) (c8 .before .before .before .before .loop-test .left) w (p .0) (p .1) (q .0) (q .1) _ (c8 .before .before .before .shorter2 .ensures))
 
 pub donors-agree-spec : {M : Type 1} → statement M
 donors-agree-spec =

@@ -94,12 +94,13 @@ allele-of-requires c κs = search needs
 
 put-allele-requires : tie.Need-put-allele-requires
 put-allele-requires c κs =
-    let a = c .before .before .before .before .before .before .before .before .before .before .before .before .before .before .args in
-    let t = taken (c .before .before .before .before .before .before .before .before) in
-    let s = part (a .reference .now) (a .built .at) (row (c .before .before .before .before .before .before .before .before .before .before .before .before .before .before) .start) in
-    let r = room (c .before .before .before .before .before .before .before .before .before .before .before .before .before .before) t in
+    let c8 = c .before .before .before .before .before .before .before .before in
+    let a = c8 .before .before .before .before .before .before .args in
+    let t = taken (c8) in
+    let s = part (a .reference .now) (a .built .at) (row (c8 .before .before .before .before .before .before) .start) in
+    let r = room (c8 .before .before .before .before .before .before) t in
     let l = ap length (c .before .before .before .before .put-bytes .ensures .1) ∙ put-length (a .out .now) (a .built .len) (omega arith) s (omega arith) in
-    rw (c .before .allele-of .ensures) (fits (c .before .before .before .before .before .before .before .before .before .before .before .before .before .before) t, omega (arith, c .before .before .before .before .put-bytes .ensures .0))
+    rw (c .before .allele-of .ensures) (fits (c8 .before .before .before .before .before .before) t, omega (arith, c .before .before .before .before .put-bytes .ensures .0))
 
 mul-t21 : tie.Need-mul-t21
 mul-t21 c = search needs
@@ -114,23 +115,30 @@ shared-slice-read-t18 : tie.Need-shared-slice-read-t18
 shared-slice-read-t18 c = search needs
 
 add-t30 : tie.Need-add-t30
-add-t30 c = omega (arith, sound (c .before .before .before .before .before .before .before .before .before .before .before .before .before .before .before .before .before .before) (taken (c .before .before .before .before .before .before .before .before .before .before .before .before)) .span)
+add-t30 c =
+    let c8 = c .before .before .before .before .before .before .before .before in
+    let c16 = c8 .before .before .before .before .before .before .before .before in
+    omega (arith, sound (c16 .before .before) (taken (c8 .before .before .before .before)) .span)
 
 same-length : tie.Need-same-length
 same-length c = search needs
 
 returns-2 : tie.Need-returns-2
 returns-2 c =
-    let a = c .before .before .before .before .before .before .before .before .before .before .before .before .before .before .before .before .before .before .args in
-    let t = taken (c .before .before .before .before .before .before .before .before .before .before .before .before) in
-    let s = sound (c .before .before .before .before .before .before .before .before .before .before .before .before .before .before .before .before .before .before) t in
-    let r = room (c .before .before .before .before .before .before .before .before .before .before .before .before .before .before .before .before .before .before) t in
-    let p = c .before .before .before .before .before .before .before .before .put-bytes in
+    let c8 = c .before .before .before .before .before .before .before .before in
+    let c16 = c8 .before .before .before .before .before .before .before .before in
+    let a = c16 .before .before .args in
+    let t = taken (c8 .before .before .before .before) in
+    let s = sound (c16 .before .before) t in
+    let r = room (c16 .before .before) t in
+    let p = c8 .put-bytes in
     let q = c .before .before .before .put-allele in
     let e = c .before .before .before .before .before .allele-of .ensures in (
-      row-built (a .reference .now) (a .text .now) (row (c .before .before .before .before .before .before .before .before .before .before .before .before .before .before .before .before .before .before)) (choiceOf (a .choice)) (a .first) (copyOf (a .copy)) t s (a .built) (q .result) (omega (arith, p .ensures .0, rw e at (q .ensures .0))),
+      row-built (a .reference .now) (a .text .now) (row (c16 .before .before)) (choiceOf (a .choice)) (a .first) (copyOf (a .copy)) t s (a .built) (q .result)
+          (omega (arith, p .ensures .0, rw e at (q .ensures .0))),
       rw e at (q .ensures .1)
-          ∙ rw (p .ensures .0, p .ensures .1) (row-some (a .reference .now) (a .text .now) (row (c .before .before .before .before .before .before .before .before .before .before .before .before .before .before .before .before .before .before)) (choiceOf (a .choice)) (a .first) (copyOf (a .copy)) t s (a .built) (a .out .now) (omega arith)),
+          ∙ rw (p .ensures .0, p .ensures .1)
+          (row-some (a .reference .now) (a .text .now) (row (c16 .before .before)) (choiceOf (a .choice)) (a .first) (copyOf (a .copy)) t s (a .built) (a .out .now) (omega arith)),
     )
 
 pub add-row-spec : {M : Type 1} → statement M

@@ -36,9 +36,10 @@ same-length c = search needs
 
 returns : tie.Need-returns
 returns c =
-    let a = c .before .before .before .before .before .before .before .before .before .before .args .allele in
-    let s = c .before .before .before .before .before .before .before .before .before .before .args .text .now in
-    let h : a .at + a .len ≤ length s = rw (c .before .before .before .before .before .before .if1 .taken) at (c .before .before .before .before .before .before .before .before .before .before .pre .0) in
+    let c8 = c .before .before .before .before .before .before .before .before in
+    let a = c8 .before .before .args .allele in
+    let s = c8 .before .before .args .text .now in
+    let h : a .at + a .len ≤ length s = rw (c .before .before .before .before .before .before .if1 .taken) at (c8 .before .before .pre .0) in
     let n : a .at + a .len - a .at ≡ a .len = omega arith in
     let l : length (take (a .len) (drop (a .at) s)) ≡ a .len = length-take-le (a .len) (drop (a .at) s) (rw length-drop (omega arith)) in
     (c .before .before .put-bytes .ensures .0 ∙ rw (n, l), c .before .before .put-bytes .ensures .1 ∙ rw (n, c .before .before .before .before .before .before .if1 .taken))
@@ -71,9 +72,10 @@ same-length-2 c = search needs
 
 returns-2 : tie.Need-returns-2
 returns-2 c =
-    let a = c .before .before .before .before .before .before .before .before .before .before .args .allele in
-    let s = c .before .before .before .before .before .before .before .before .before .before .args .reference .now in
-    let h : a .at + a .len ≤ length s = rw (c .before .before .before .before .before .before .if1 .left) at (c .before .before .before .before .before .before .before .before .before .before .pre .0) in
+    let c8 = c .before .before .before .before .before .before .before .before in
+    let a = c8 .before .before .args .allele in
+    let s = c8 .before .before .args .reference .now in
+    let h : a .at + a .len ≤ length s = rw (c .before .before .before .before .before .before .if1 .left) at (c8 .before .before .pre .0) in
     let n : a .at + a .len - a .at ≡ a .len = omega arith in
     let l : length (take (a .len) (drop (a .at) s)) ≡ a .len = length-take-le (a .len) (drop (a .at) s) (rw length-drop (omega arith)) in
     (c .before .before .put-bytes2 .ensures .0 ∙ rw (n, l), c .before .before .put-bytes2 .ensures .1 ∙ rw (n, c .before .before .before .before .before .before .if1 .left))

@@ -48,10 +48,11 @@ same-length-2 c = search needs
 
 returns-2 : tie.Need-returns-2
 returns-2 c =
-    let a = c .before .before .before .before .before .before .before .before .before .before .before .before .before .before .args in
+    let c8 = c .before .before .before .before .before .before .before .before in
+    let a = c8 .before .before .before .before .before .before .args in
     let d = a .out .now in
     let n = a .n in
-    let p = c .before .before .before .before .before .before .before .before .before .before .put-decimal2 in
+    let p = c8 .before .before .put-decimal2 in
     let q = c .before .before .before .before .before .before .put-byte in
     let z = c .before .before .put-byte2 in
     let e = p .last .1 .0 in
@@ -61,7 +62,7 @@ returns-2 c =
     let tens = (48 + n / 10 % 10) ∷ [] in
     let ones = (48 + n % 10) ∷ [] in
     let w = wrote-then d (a .at) s (p .result) e tens (q .result) f h (p .ensures) (q .ensures) in
-    rw (number-large n (c .before .before .before .before .before .before .before .before .before .before .before .before .if1 .left)) (wrote-then d (a .at) (s ++ tens) (q .result) f ones (z .result) (z .last .1 .0) h w (z .ensures))
+    rw (number-large n (c8 .before .before .before .before .if1 .left)) (wrote-then d (a .at) (s ++ tens) (q .result) f ones (z .result) (z .last .1 .0) h w (z .ensures))
 
 pub put-number-spec : {M : Type 1} → statement M
 put-number-spec =

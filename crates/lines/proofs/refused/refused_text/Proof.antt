@@ -21,10 +21,12 @@ same-length c = search needs
 
 returns : tie.Need-returns
 returns c =
-    let a = c .before .before .before .before .before .before .before .before .before .before .args in
+    let c8 = c .before .before .before .before .before .before .before .before in
+    let a = c8 .before .before .args in
     let p = c .before .before .before .before .before .before .put-bytes in
     let q = c .before .before .put-fields in
-    let w = wrote-then (a .out .now) 0 refusedWord (p .result) (p .last .1 .0) (fields (a .number) (a .list) (a .line) LF) (q .result) (q .last .1 .1 .1 .1 .0) (omega arith) (p .ensures) (q .ensures) in
+    let w = wrote-then (a .out .now) 0 refusedWord (p .result) (p .last .1 .0) (fields (a .number) (a .list) (a .line) LF) (q .result) (q .last .1 .1 .1 .1 .0) (omega arith) (p .ensures)
+    (q .ensures) in
     (omega (arith, w .0), w .1)
 
 pub refused-text-spec : {M : Type 1} → statement M

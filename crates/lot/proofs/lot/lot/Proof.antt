@@ -25,7 +25,8 @@ use ghost.Atoms.{Atoms}
 use contract.Monad.{Fun}
 use contract.Running.{givenOf, tables, tablesOf}
 use types.Kit.{Given, Item, ‵, _⊛_, ⋆, runs, anyQ, atRet, Sq, _$_, _∵_, !, qed, by, move, keep, drop, use1, split, join, rewrite, fsplit, fjoin, suffices, frame, done}
-use types.Run.{look, init, store, look-raw, forget, stop, hop, fld, from, load, lit, of-opd, bin, and-then, no-more, assigns, assigns-last, land, first, blocks, stays, leaves-loop, returns, enter, alloc1, alloc0, params1, pass1, pass0, free1, free0, exec, Below, again, loops}
+use types.Run.{look, init, store, look-raw, forget, stop, hop, fld, from, load, lit, of-opd, bin, and-then, no-more, assigns, assigns-last, land, first, blocks, stays, leaves-loop, returns, enter}
+use types.Run.{alloc1, alloc0, params1, pass1, pass0, free1, free0, exec, Below, again, loops}
 use types.Part.{whole, sub, look-in}
 use sound.WpLaws.{fmOf, WpFn-mono}
 use denote.RattleType.{RattleType, owns}
@@ -82,7 +83,8 @@ stayed = (stay-none-slice (0 ∷ []) tt (plain (λ _. R)) yes, tt)
 abbrev RunsRead : {M : Type 1} (𝓤 : URA M) (H : Heap 𝓤) (A : Atoms 𝓤) (mem : Memory → SProp 𝓤) (run : Routine → Fun 𝓤) → Contract 𝓤
 RunsRead 𝓤 H A mem run = tripleOf 𝓤 H A runs-read.signature (runs-read.spec 𝓤 H A mem run)
 
-module _ {M : Type 1} (𝓤 : URA M) (H : Heap 𝓤) (A : Atoms 𝓤) (W : Given 𝓤 H A) (mem : Memory → SProp 𝓤) (run : Routine → Fun 𝓤) (κ : Lft) (q : Share) (b o : ℕ) (γ : GName) (ys : List Run) (gy : Room R (length ys)) where
+module _ {M : Type 1} (𝓤 : URA M) (H : Heap 𝓤) (A : Atoms 𝓤) (W : Given 𝓤 H A) (mem : Memory → SProp 𝓤) (run : Routine → Fun 𝓤) (κ : Lft) (q : Share) (b o : ℕ) (γ : GName) (ys : List Run)
+    (gy : Room R (length ys)) where
   -- how many runs are added up
   abbrev n : ℕ
   n = runsRead (length ys)
@@ -136,7 +138,8 @@ module _ {M : Type 1} (𝓤 : URA M) (H : Heap 𝓤) (A : Atoms 𝓤) (W : Given
         ∷ ‵ (fat fullShare lent-runs l₁ 0 slice) ∷ ‵ (fdies lent-runs l₁) ∷ ‵ (froom Lot″.mir l₀ 0) ∷ ‵ (fdies Lot″.mir l₀) ∷ []
 
     abbrev At : Upto → List (Item 𝓤)
-    At i = With (‵ (fat fullShare word l₆ 0 (vint w64 (length ys)))) (‵ (fat fullShare word l₄ 0 (vint w64 (i .0)))) (‵ (fat fullShare Sum″.mir l₃ 0 (Sum″.lowered (sumAt ys (i .0))))) (‵ (fat fullShare word l₂ 0 (vint w64 n)))
+    At i = With (‵ (fat fullShare word l₆ 0 (vint w64 (length ys)))) (‵ (fat fullShare word l₄ 0 (vint w64 (i .0)))) (‵ (fat fullShare Sum″.mir l₃ 0 (Sum″.lowered (sumAt ys (i .0)))))
+        (‵ (fat fullShare word l₂ 0 (vint w64 n)))
 
     abbrev Turned : Upto → Out → SProp 𝓤
     Turned i = afterTurn 𝓤 H (Below 𝓤 H A Nearer At i) (afterBlock 𝓤 H (afterSeq 𝓤 H (Wp 𝓤 H (𝓣 .C) (𝓣 .Λ) En cm.t-6 (atReturn 𝓤 H En Post)) (atReturn 𝓤 H En Post)))
@@ -162,7 +165,8 @@ module _ {M : Type 1} (𝓤 : URA M) (H : Heap 𝓤) (A : Atoms 𝓤) (W : Given
         looks-slice ! tt R (Is R) (shows 𝓤 H A R) (LL.vals Run′.the-type Run″.the-laws) (LL.tells Run′.the-type Run″.the-laws) ((LL.copy Run′.the-type Run″.the-copy) 𝓤 H A W) ys b o (λ q′.
         elem-out ! R (Is R) (shows 𝓤 H A R) (LL.vals Run′.the-type Run″.the-laws) (LL.tells Run′.the-type Run″.the-laws) q′ ys k noRun b o inside (λ g.
         -- [run k; what it owns; the others; what shuts; the shared borrow; the runs; _10; …]
-        assigns ! (of-opd ! (load ! (from ! (hop ! (look ! 8 refl) (stop !))) (look-raw ! 0 refl))) (from ! (stop !)) (init ! 6 refl (LL.lawful Run′.the-type Run″.the-laws 𝓤 H A W .typed given _ g .0)) $
+        assigns ! (of-opd ! (load ! (from ! (hop ! (look ! 8 refl) (stop !))) (look-raw ! 0 refl))) (from ! (stop !))
+        (init ! 6 refl (LL.lawful Run′.the-type Run″.the-laws 𝓤 H A W .typed given _ g .0)) $
         assigns ! (of-opd ! (load ! (from ! (stop !)) (look ! 6 refl))) (from ! (stop !)) (init ! 16 refl (LL.lawful Run′.the-type Run″.the-laws 𝓤 H A W .typed given _ g .0)) $
         elem-back ! R q′ ys k noRun (LL.vals Run′.the-type Run″.the-laws given) b o inside $ shuts-slice ! tt R q′ ys b o $ move ! (1 ∷ []) $ drop ! $
         -- [the runs' token; the runs; _10; …]
@@ -184,7 +188,8 @@ module _ {M : Type 1} (𝓤 : URA M) (H : Heap 𝓤) (A : Atoms 𝓤) (W : Given
         rewrite ! 8 (λ (t : Bool). ‵ (fat fullShare tyBool l₇ 0 (vbool t))) (le-ltb k n over) refl $
         leaves-loop ! (load ! (from ! (stop !)) (look ! 8 refl)) $ exec ! (𝓣 .C) (𝓣 .Λ) En cm.t-6 (atRet En Post) $
         assigns ! (of-opd ! (load ! (from ! (fld ! refl (stop !))) (look-in ! 20 (sub ! 1 refl (whole !))))) (from ! (stop !)) (store ! 10 refl (tt, record { fits = gy .0 })) $
-        answers 𝓤 H A W mem run ys 𝓣 known ! (length ys) (gy .0) k few (i .1 .1) (lotOf ys) e (and-then ! (load ! (from ! (stop !)) (look ! 11 refl)) (and-then ! (load ! (from ! (stop !)) (look ! 17 refl)) (no-more !))) (λ good.
+        answers 𝓤 H A W mem run ys 𝓣 known ! (length ys) (gy .0) k few (i .1 .1) (lotOf ys) e
+        (and-then ! (load ! (from ! (stop !)) (look ! 11 refl)) (and-then ! (load ! (from ! (stop !)) (look ! 17 refl)) (no-more !))) (λ good.
         land ! (from ! (stop !)) (init ! 22 refl (LL.lawful Lot′.the-type Lot″.the-laws 𝓤 H A W .typed (lotOf ys) _ good .0)) $
         returns ! (look ! 22 refl) $ move ! (22 ∷ 23 ∷ 20 ∷ 21 ∷ 18 ∷ 19 ∷ 16 ∷ 17 ∷ 14 ∷ 15 ∷ 12 ∷ 13 ∷ 10 ∷ 11 ∷ 8 ∷ 9 ∷ 6 ∷ 7 ∷ 4 ∷ 5 ∷ 2 ∷ 3 ∷ []) $
         gone1 ! $ gone1 ! $ gone1 ! $ gone1 ! $ gone1 ! $ free1 ! $ gone1 ! $ gone1 ! $ free1 ! $ free1 ! $ free1 ! $ free0 ! $
@@ -198,7 +203,8 @@ module _ {M : Type 1} (𝓤 : URA M) (H : Heap 𝓤) (A : Atoms 𝓤) (W : Given
     starts =
         let small : n < 2 ^ 64 = omega (arith, runs-read-le (length ys)) in
         assigns ! (of-opd ! (load ! (from ! (fld ! refl (stop !))) (look-in ! 20 (sub ! 1 refl (whole !))))) (from ! (stop !)) (init ! 10 refl (tt, record { fits = gy .0 })) $
-        tells-values ! (fmOf 𝓤 H (W .laws) 𝓣) runs-read.ended (runs-read.clauses 𝓤 H A mem run) known-read ((tt, tt, tt, (length ys, tt), (vint w64 (length ys) ∷ [], tt)), tt) (id⊢ 𝓤 (emp 𝓤)) (id⊢ 𝓤 (emp 𝓤))
+        tells-values ! (fmOf 𝓤 H (W .laws) 𝓣) runs-read.ended (runs-read.clauses 𝓤 H A mem run) known-read ((tt, tt, tt, (length ys, tt), (vint w64 (length ys) ∷ [], tt)), tt) (id⊢ 𝓤 (emp 𝓤))
+        (id⊢ 𝓤 (emp 𝓤))
         (uint-makes 𝓤 H A W w64, tt) ((refl, gy .0), tt) (λ (z : ℕ). vint w64 z) (uint-tells w64) n (λ r ws. refl) (and-then ! (load ! (from ! (stop !)) (look ! 11 refl)) (no-more !)) (λ _.
         land ! (from ! (stop !)) (init ! 18 refl (tt, record { fits = small })) $
         begins 𝓤 H A W mem run ys 𝓣 known ! (no-more !) (λ good.
@@ -207,16 +213,19 @@ module _ {M : Type 1} (𝓤 : URA M) (H : Heap 𝓤) (A : Atoms 𝓤) (W : Given
         first ! $ blocks ! $ loops ! 𝓣 Nearer Nearer-wf At turns (0, (zero-le, good))))
 
   walk : (𝓣 : Tables 𝓤 H) → Triple 𝓤 (𝓣 .C runs-read-def.name) (RunsRead 𝓤 H A mem run) → Known 𝓤 H A mem run 𝓣
-      → ent 𝓤 (onEntry 𝓤 H A lot.signature (passed .0 .0) (passed .0 .1) (passed .0 .3) (passed .0 .4)) (WpFn 𝓤 H (𝓣 .C) (𝓣 .Λ) code.function (walkOf 𝓤 H A lot.ended stayed (lot.clauses 𝓤 H A mem run) .args passed) Post)
+      → ent 𝓤 (onEntry 𝓤 H A lot.signature (passed .0 .0) (passed .0 .1) (passed .0 .3) (passed .0 .4))
+      (WpFn 𝓤 H (𝓣 .C) (𝓣 .Λ) code.function (walkOf 𝓤 H A lot.ended stayed (lot.clauses 𝓤 H A mem run) .args passed) Post)
   walk 𝓣 known-read known =
       qed W ((‵ (flft κ q) ⊛ ‵ ftrue) ∷ ‵ (owns (Lent ∷ []) (lent, tt) (slice ∷ [], tt)) ∷ []) ∵ split ! $ move ! (2 ∷ []) $ fsplit ! $ keep ! (0 ∷ 2 ∷ []) $
       -- [the runs; their token]
       enter ! (𝓣 .C) (𝓣 .Λ) code.function _ _ $
-      alloc1 ! (λ l₀. alloc1 ! (λ l₁. alloc1 ! (λ l₂. alloc1 ! (λ l₃. alloc1 ! (λ l₄. alloc1 ! (λ l₅. alloc1 ! (λ l₆. alloc1 ! (λ l₇. alloc1 ! (λ l₈. alloc1 ! (λ l₉. alloc1 ! (λ l₁₀. alloc0 ! $ params1 ! $
+      alloc1 ! (λ l₀. alloc1 !
+      (λ l₁. alloc1 ! (λ l₂. alloc1 ! (λ l₃. alloc1 ! (λ l₄. alloc1 ! (λ l₅. alloc1 ! (λ l₆. alloc1 ! (λ l₇. alloc1 ! (λ l₈. alloc1 ! (λ l₉. alloc1 ! (λ l₁₀. alloc0 ! $ params1 ! $
       pass1 ! (init ! 18 refl (tt, (tt, (record { fits = gy .0 }, tt)))) $ pass0 ! $
       move ! (23 ∷ 22 ∷ []) $ starts 𝓣 known-read known l₀ l₁ l₂ l₃ l₄ l₅ l₆ l₇ l₈ l₉ l₁₀)))))))))))
 
-module _ {M : Type 1} (𝓤 : URA M) (H : Heap 𝓤) (A : Atoms 𝓤) (W : Given 𝓤 H A) (mem : Memory → SProp 𝓤) (run : Routine → Fun 𝓤) (𝓣 : Tables 𝓤 H) (known-read : Triple 𝓤 (𝓣 .C runs-read-def.name) (RunsRead 𝓤 H A mem run)) (known : Known 𝓤 H A mem run 𝓣) where
+module _ {M : Type 1} (𝓤 : URA M) (H : Heap 𝓤) (A : Atoms 𝓤) (W : Given 𝓤 H A) (mem : Memory → SProp 𝓤) (run : Routine → Fun 𝓤) (𝓣 : Tables 𝓤 H)
+    (known-read : Triple 𝓤 (𝓣 .C runs-read-def.name) (RunsRead 𝓤 H A mem run)) (known : Known 𝓤 H A mem run 𝓣) where
   lot-walks : Walks 𝓤 H A lot.ended stayed (WpFn 𝓤 H (𝓣 .C) (𝓣 .Λ) code.function) (lot.clauses 𝓤 H A mem run)
   lot-walks =
       walked 𝓤 H A lot.ended stayed (lot.clauses 𝓤 H A mem run) (WpFn 𝓤 H (𝓣 .C) (𝓣 .Λ) code.function) (λ κs. (slice-vals, tt)) (λ κs. (shr-slice-tells (named 0) (κs .0) R, tt))

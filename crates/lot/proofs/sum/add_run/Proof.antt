@@ -19,32 +19,46 @@ add-t5 c =
 add-t6 : tie.Need-add-t6
 add-t6 c =
     let s = c .before .before .before .before .before .before .before in
-    record { fits = room-fits (s .args .sum .total) (s .args .run) (s .pre) (sym (c .before .before .before .before .before .is-large .ensures) ∙ c .before .before .before .before .if1 .left) .unmatched1 }
+    record {
+      fits = room-fits (s .args .sum .total) (s .args .run) (s .pre)
+          (sym (c .before .before .before .before .before .is-large .ensures) ∙ c .before .before .before .before .if1 .left) .unmatched1;
+    }
 
 add-t7 : tie.Need-add-t7
 add-t7 c =
-    let s = c .before .before .before .before .before .before .before .before .before in
-    record { fits = room-fits (s .args .sum .total) (s .args .run) (s .pre) (sym (c .before .before .before .before .before .before .before .is-large .ensures) ∙ c .before .before .before .before .before .before .if1 .left) .undecided1 }
+    let c8 = c .before .before .before .before .before .before .before .before in
+    let s = c8 .before in
+    record {
+      fits = room-fits (s .args .sum .total) (s .args .run) (s .pre)
+          (sym (c .before .before .before .before .before .before .before .is-large .ensures) ∙ c .before .before .before .before .before .before .if1 .left) .undecided1;
+    }
 
 add-t8 : tie.Need-add-t8
 add-t8 c =
-    let s = c .before .before .before .before .before .before .before .before .before .before .before in
-    record { fits = room-fits (s .args .sum .total) (s .args .run) (s .pre) (sym (c .before .before .before .before .before .before .before .before .before .is-large .ensures) ∙ c .before .before .before .before .before .before .before .before .if1 .left) .matched2 }
+    let c8 = c .before .before .before .before .before .before .before .before in
+    let s = c8 .before .before .before in
+    record { fits = room-fits (s .args .sum .total) (s .args .run) (s .pre) (sym (c8 .before .is-large .ensures) ∙ c8 .if1 .left) .matched2 }
 
 add-t9 : tie.Need-add-t9
 add-t9 c =
-    let s = c .before .before .before .before .before .before .before .before .before .before .before .before .before in
-    record { fits = room-fits (s .args .sum .total) (s .args .run) (s .pre) (sym (c .before .before .before .before .before .before .before .before .before .before .before .is-large .ensures) ∙ c .before .before .before .before .before .before .before .before .before .before .if1 .left) .unmatched2 }
+    let c8 = c .before .before .before .before .before .before .before .before in
+    let s = c8 .before .before .before .before .before in
+    record { fits = room-fits (s .args .sum .total) (s .args .run) (s .pre) (sym (c8 .before .before .before .is-large .ensures) ∙ c8 .before .before .if1 .left) .unmatched2 }
 
 add-t10 : tie.Need-add-t10
 add-t10 c =
-    let s = c .before .before .before .before .before .before .before .before .before .before .before .before .before .before .before in
-    record { fits = room-fits (s .args .sum .total) (s .args .run) (s .pre) (sym (c .before .before .before .before .before .before .before .before .before .before .before .before .before .is-large .ensures) ∙ c .before .before .before .before .before .before .before .before .before .before .before .before .if1 .left) .undecided2 }
+    let c8 = c .before .before .before .before .before .before .before .before in
+    let s = c8 .before .before .before .before .before .before .before in
+    record {
+      fits = room-fits (s .args .sum .total) (s .args .run) (s .pre)
+          (sym (c8 .before .before .before .before .before .is-large .ensures) ∙ c8 .before .before .before .before .if1 .left) .undecided2;
+    }
 
 returns-2 : tie.Need-returns-2
 returns-2 c =
-    let a = c .before .before .before .before .before .before .before .before .before .before .before .before .before .before .before .args in
-    sym (add-small (a .sum) (a .run) (sym (c .before .before .before .before .before .before .before .before .before .before .before .before .before .is-large .ensures) ∙ c .before .before .before .before .before .before .before .before .before .before .before .before .if1 .left))
+    let c8 = c .before .before .before .before .before .before .before .before in
+    let a = c8 .before .before .before .before .before .before .before .args in
+    sym (add-small (a .sum) (a .run) (sym (c8 .before .before .before .before .before .is-large .ensures) ∙ c8 .before .before .before .before .if1 .left))
 
 pub add-run-spec : {M : Type 1} → statement M
 add-run-spec =

@@ -34,11 +34,14 @@ cast-refused-text-3 c = search needs
 
 refused-text-requires : tie.Need-refused-text-requires
 refused-text-requires c κs =
-    let s = c .before .before .before .before .before .before .before .before .before .before .before in
+    let c8 = c .before .before .before .before .before .before .before .before in
+    let s = c8 .before .before .before in
     let a = s .args in
     let t = a .text .now in
     let ls = linesOf (drop (a .from) t) in
-    let lot : c .before .before .before .before .before .before .lot-of-first .result ≡ lotOf (runsOn ls) = lot-made ls (c .before .before .before .before .before .before .lot-of-first .result) (c .before .before .before .before .before .before .before .first-runs .result) (c .before .before .before .before .before .before .before .before .count-lines .result) (c .before .before .before .before .before .before .before .before .count-lines .ensures) (c .before .before .before .before .before .before .before .first-runs .ensures) (c .before .before .before .before .before .before .lot-of-first .ensures) in
+    let lot : c .before .before .before .before .before .before .lot-of-first .result ≡ lotOf (runsOn ls) =
+    lot-made ls (c .before .before .before .before .before .before .lot-of-first .result) (c .before .before .before .before .before .before .before .first-runs .result) (c8 .count-lines .result)
+    (c8 .count-lines .ensures) (c .before .before .before .before .before .before .before .first-runs .ensures) (c .before .before .before .before .before .before .lot-of-first .ensures) in
     let told = lot-told (runsOn ls) in
     rw lot (omega (arith, told .0), omega (arith, told .1), omega (arith, told .2), omega (arith, s .pre .3))
 
@@ -47,22 +50,28 @@ same-length c = search needs
 
 returns : tie.Need-returns
 returns c =
-    let s = c .before .before .before .before .before .before .before .before .before .before .before .before .before .before in
+    let c8 = c .before .before .before .before .before .before .before .before in
+    let s = c8 .before .before .before .before .before .before in
     let a = s .args in
     let t = a .text .now in
     let ls = linesOf (drop (a .from) t) in
-    let lot : c .before .before .before .before .before .before .before .before .before .lot-of-first .result ≡ lotOf (runsOn ls) = lot-made ls (c .before .before .before .before .before .before .before .before .before .lot-of-first .result) (c .before .before .before .before .before .before .before .before .before .before .first-runs .result) (c .before .before .before .before .before .before .before .before .before .before .before .count-lines .result) (c .before .before .before .before .before .before .before .before .before .before .before .count-lines .ensures) (c .before .before .before .before .before .before .before .before .before .before .first-runs .ensures) (c .before .before .before .before .before .before .before .before .before .lot-of-first .ensures) in
+    let lot : c8 .before .lot-of-first .result ≡ lotOf (runsOn ls) =
+    lot-made ls (c8 .before .lot-of-first .result) (c8 .before .before .first-runs .result) (c8 .before .before .before .count-lines .result) (c8 .before .before .before .count-lines .ensures)
+    (c8 .before .before .first-runs .ensures) (c8 .before .lot-of-first .ensures) in
     let e = runs-refused ls (λ z. c .before .before .before .before .before .before .before .if1 .taken (ap (λ (l : Lot). l .number) lot ∙ z)) in
     let w = rw lot at (c .before .before .refused-text .ensures) in
     (w .0 ∙ ap length (sym e), w .1 ∙ ap (put (a .out .now) 0) (sym e))
 
 put-table-requires : tie.Need-put-table-requires
 put-table-requires c κs =
-    let s = c .before .before .before .before .before .before .before .before in
+    let c8 = c .before .before .before .before .before .before .before .before in
+    let s = c8 in
     let a = s .args in
     let t = a .text .now in
     let ls = linesOf (drop (a .from) t) in
-    let lot : c .before .before .before .lot-of-first .result ≡ lotOf (runsOn ls) = lot-made ls (c .before .before .before .lot-of-first .result) (c .before .before .before .before .first-runs .result) (c .before .before .before .before .before .count-lines .result) (c .before .before .before .before .before .count-lines .ensures) (c .before .before .before .before .first-runs .ensures) (c .before .before .before .lot-of-first .ensures) in
+    let lot : c .before .before .before .lot-of-first .result ≡ lotOf (runsOn ls) =
+    lot-made ls (c .before .before .before .lot-of-first .result) (c .before .before .before .before .first-runs .result) (c .before .before .before .before .before .count-lines .result)
+    (c .before .before .before .before .before .count-lines .ensures) (c .before .before .before .before .first-runs .ensures) (c .before .before .before .lot-of-first .ensures) in
     (record { inside = s .pre .1; short = s .pre .2; runs = s .pre .0; lot = lot; answered = c .before .if1 .left }, s .pre .3)
 
 same-length-2 : tie.Need-same-length-2
@@ -70,11 +79,14 @@ same-length-2 c = search needs
 
 returns-2 : tie.Need-returns-2
 returns-2 c =
-    let s = c .before .before .before .before .before .before .before .before .before .before .before in
+    let c8 = c .before .before .before .before .before .before .before .before in
+    let s = c8 .before .before .before in
     let a = s .args in
     let t = a .text .now in
     let ls = linesOf (drop (a .from) t) in
-    let lot : c .before .before .before .before .before .before .lot-of-first .result ≡ lotOf (runsOn ls) = lot-made ls (c .before .before .before .before .before .before .lot-of-first .result) (c .before .before .before .before .before .before .before .first-runs .result) (c .before .before .before .before .before .before .before .before .count-lines .result) (c .before .before .before .before .before .before .before .before .count-lines .ensures) (c .before .before .before .before .before .before .before .first-runs .ensures) (c .before .before .before .before .before .before .lot-of-first .ensures) in
+    let lot : c .before .before .before .before .before .before .lot-of-first .result ≡ lotOf (runsOn ls) =
+    lot-made ls (c .before .before .before .before .before .before .lot-of-first .result) (c .before .before .before .before .before .before .before .first-runs .result) (c8 .count-lines .result)
+    (c8 .count-lines .ensures) (c .before .before .before .before .before .before .before .first-runs .ensures) (c .before .before .before .before .before .before .lot-of-first .ensures) in
     let e = runs-table ls (sym (ap (λ (l : Lot). l .number) lot) ∙ c .before .before .before .before .if1 .left) in
     let w = c .before .before .put-table .ensures in
     (w .0 ∙ ap length (sym e), w .1 ∙ ap (put (a .out .now) 0) (sym e))

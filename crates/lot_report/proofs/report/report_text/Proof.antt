@@ -88,13 +88,15 @@ same-length-4 c = search needs
 
 returns-4 : tie.Need-returns-4
 returns-4 c =
-    let a = c .before .before .before .before .before .before .before .before .before .before .before .before .before .before .args in
+    let c8 = c .before .before .before .before .before .before .before .before in
+    let a = c8 .before .before .before .before .before .before .args in
     let t = a .text .now in
-    let ends = sym (c .before .before .before .before .before .before .before .before .before .before .ends-in-lf .ensures) ∙ not-false _ (c .before .before .before .before .before .before .before .before .before .if2 .left) in
-    let right = right-text t (c .before .before .before .before .before .before .before .before .before .before .before .if1 .left) ends in
-    let headed = sym (c .before .before .before .before .before .before .before .before .is-headed .ensures) ∙ not-false _ (c .before .before .before .before .before .before .before .if3 .left) in
+    let ends = sym (c8 .before .before .ends-in-lf .ensures) ∙ not-false _ (c8 .before .if2 .left) in
+    let right = right-text t (c8 .before .before .before .if1 .left) ends in
+    let headed = sym (c8 .is-headed .ensures) ∙ not-false _ (c .before .before .before .before .before .before .before .if3 .left) in
     let from = c .before .before .before .before .before .before .next-line .ensures in
-    let bad : c .before .before .before .before .before .bad-line .result ≡ badLine 2 (runLines t) = c .before .before .before .before .before .bad-line .ensures ∙ ap (λ (k : ℕ). badLine 2 (linesOf (drop k t))) from in
+    let bad : c .before .before .before .before .before .bad-line .result ≡ badLine 2 (runLines t) = c .before .before .before .before .before .bad-line .ensures
+    ∙ ap (λ (k : ℕ). badLine 2 (linesOf (drop k t))) from in
     let e = report-bad t right headed (λ z. c .before .before .before .before .if4 .taken (bad ∙ z)) in
     let w = rw bad at (c .before .before .refused-text4 .ensures) in
     (w .0 ∙ ap length (sym e), w .1 ∙ ap (put (a .out .now) 0) (sym e))
@@ -114,13 +116,15 @@ same-length-5 c = search needs
 
 returns-5 : tie.Need-returns-5
 returns-5 c =
-    let a = c .before .before .before .before .before .before .before .before .before .before .before .before .before .before .args in
+    let c8 = c .before .before .before .before .before .before .before .before in
+    let a = c8 .before .before .before .before .before .before .args in
     let t = a .text .now in
-    let ends = sym (c .before .before .before .before .before .before .before .before .before .before .ends-in-lf .ensures) ∙ not-false _ (c .before .before .before .before .before .before .before .before .before .if2 .left) in
-    let right = right-text t (c .before .before .before .before .before .before .before .before .before .before .before .if1 .left) ends in
-    let headed = sym (c .before .before .before .before .before .before .before .before .is-headed .ensures) ∙ not-false _ (c .before .before .before .before .before .before .before .if3 .left) in
+    let ends = sym (c8 .before .before .ends-in-lf .ensures) ∙ not-false _ (c8 .before .if2 .left) in
+    let right = right-text t (c8 .before .before .before .if1 .left) ends in
+    let headed = sym (c8 .is-headed .ensures) ∙ not-false _ (c .before .before .before .before .before .before .before .if3 .left) in
     let from = c .before .before .before .before .before .before .next-line .ensures in
-    let e = report-runs t right headed (ap (λ (k : ℕ). badLine 2 (linesOf (drop k t))) (sym from) ∙ sym (c .before .before .before .before .before .bad-line .ensures) ∙ c .before .before .before .before .if4 .left) in
+    let e = report-runs t right headed
+    (ap (λ (k : ℕ). badLine 2 (linesOf (drop k t))) (sym from) ∙ sym (c .before .before .before .before .before .bad-line .ensures) ∙ c .before .before .before .before .if4 .left) in
     let w = rw from at (c .before .before .report-runs .ensures) in
     (w .0 ∙ ap length (sym e), w .1 ∙ ap (put (a .out .now) 0) (sym e))
 

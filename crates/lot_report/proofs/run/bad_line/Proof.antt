@@ -51,7 +51,12 @@ returns c =
     sym (bad-stop (p .n) (lineAt t (p .at)) (linesOf (drop (nextLine t (p .at)) t)) k) ∙ sym (ap (badLine (p .n)) (lines-at t (p .at) (omega arith))) ∙ p .inv .2
 
 add-at : tie.Need-add-at Inv-loop μ-loop
-add-at c = omega (arith, c .before .before .before .find .ensures, until-within LF (c .before .before .before .before .before .before .before .args .text .now) (c .before .before .before .before .before .loop .at))
+add-at c = omega (
+  arith,
+  c .before .before .before .find .ensures,
+  until-within LF (c .before .before .before .before .before .before .before .args .text .now)
+      (c .before .before .before .before .before .loop .at),
+)
 
 add-n : tie.Need-add-n Inv-loop μ-loop
 add-n c = omega arith

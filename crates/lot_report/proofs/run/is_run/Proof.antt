@@ -68,9 +68,11 @@ loop-less c = omega arith
 
 loop-again : tie.Need-loop-again Inv-loop μ-loop
 loop-again c =
-    let l = c .before .before .before .before .before .before .before .before .before .before .args .line .now in
+    let c8 = c .before .before .before .before .before .before .before .before in
+    let l = c8 .before .before .args .line .now in
     let p = c .before .before .before .before .before .before .loop in
-    let e : count? (fieldFrom l (p .at)) ≡ true = sym (ap (λ (f : List ℕ). count? f) (c .before .before .before .field-from .ensures)) ∙ sym (c .before .before .is-count .ensures) ∙ not-false _ (c .before .if3 .left) in
+    let e : count? (fieldFrom l (p .at)) ≡ true = sym (ap (λ (f : List ℕ). count? f) (c .before .before .before .field-from .ensures)) ∙ sym (c .before .before .is-count .ensures)
+    ∙ not-false _ (c .before .if3 .left) in
     let n : c .skip-fields .result ≡ fieldEnd l (p .at) + 1 = c .skip-fields .ensures ∙ skip-more 1 l (p .at) (omega arith) ∙ skip-zero l (fieldEnd l (p .at) + 1) in
     (omega arith, omega (arith, n, until-within TAB l (p .at)), rw n (sym (counts-more (p .left) l (p .at) (omega arith) e) ∙ p .inv .2))
 

@@ -23,7 +23,14 @@ count-on-requires-6 c κs = search needs
 
 returns : tie.Need-returns
 returns c =
-    rw (c .before .before .before .before .before .count-on .ensures, c .before .before .before .before .count-on2 .ensures, c .before .before .before .count-on3 .ensures, c .before .before .count-on4 .ensures, c .before .count-on5 .ensures, c .count-on6 .ensures)
+    rw (
+      c .before .before .before .before .before .count-on .ensures,
+      c .before .before .before .before .count-on2 .ensures,
+      c .before .before .before .count-on3 .ensures,
+      c .before .before .count-on4 .ensures,
+      c .before .count-on5 .ensures,
+      c .count-on6 .ensures,
+    )
 
 pub run-on-spec : {M : Type 1} → statement M
 run-on-spec =

@@ -61,7 +61,12 @@ array-set-from-runs : tie.Need-array-set-from-runs Inv-loop μ-loop
 array-set-from-runs c = omega arith
 
 add-at : tie.Need-add-at Inv-loop μ-loop
-add-at c = omega (arith, c .before .before .find .ensures, until-within LF (c .before .before .before .before .before .before .before .args .text .now) (c .before .before .before .before .before .loop .at))
+add-at c = omega (
+  arith,
+  c .before .before .find .ensures,
+  until-within LF (c .before .before .before .before .before .before .before .args .text .now)
+      (c .before .before .before .before .before .loop .at),
+)
 
 add-n : tie.Need-add-n Inv-loop μ-loop
 add-n c = omega arith

@@ -55,37 +55,97 @@ cast-put-field-3 c = search needs
 
 put-field-requires-3 : tie.Need-put-field-requires-3
 put-field-requires-3 c κs =
-    let s = c .before .before .before .before .before .before .before .before .before .before .before .before .before .before .before in
-    let b = s .args .share in
-    (s .pre .0 .ppm (c .before .before .before .before .before .before .before .before .before .before .before .before .if1 .left), omega (arith, s .pre .1, c .before .before .before .before .before .before .before .before .before .put-field .ensures .0, c .before .before .before .before .before .before .before .before .before .put-field .kept .1 .1 .0, field-few (b .top) SLASH, c .before .before .before .before .put-field2 .ensures .0, c .before .before .before .before .put-field2 .kept .1 .1 .0, field-few (b .bottom) TAB))
+    let c8 = c .before .before .before .before .before .before .before .before in
+    let s = c8 .before .before .before .before .before .before .before in
+    let b = s .args .share in (
+      s .pre .0 .ppm (c8 .before .before .before .before .if1 .left),
+      omega (
+        arith,
+        s .pre .1,
+        c8 .before .put-field .ensures .0,
+        c8 .before .put-field .kept .1 .1 .0,
+        field-few (b .top) SLASH,
+        c .before .before .before .before .put-field2 .ensures .0,
+        c .before .before .before .before .put-field2 .kept .1 .1 .0,
+        field-few (b .bottom) TAB,
+      ),
+    )
 
 cast-put-percent : tie.Need-cast-put-percent
 cast-put-percent c = search needs
 
 put-percent-requires : tie.Need-put-percent-requires
 put-percent-requires c κs =
-    let s = c .before .before .before .before .before .before .before .before .before .before .before .before .before .before .before .before .before .before .before .before in
-    let b = s .args .share in
-    (s .pre .0 .ppm (c .before .before .before .before .before .before .before .before .before .before .before .before .before .before .before .before .before .if1 .left), omega (arith, s .pre .1, c .before .before .before .before .before .before .before .before .before .before .before .before .before .before .put-field .ensures .0, c .before .before .before .before .before .before .before .before .before .before .before .before .before .before .put-field .kept .1 .1 .0, field-few (b .top) SLASH, c .before .before .before .before .before .before .before .before .before .put-field2 .ensures .0, c .before .before .before .before .before .before .before .before .before .put-field2 .kept .1 .1 .0, field-few (b .bottom) TAB, c .before .before .before .before .put-field3 .ensures .0, c .before .before .before .before .put-field3 .kept .1 .1 .0, field-few (b .ppm) TAB))
+    let c8 = c .before .before .before .before .before .before .before .before in
+    let c16 = c8 .before .before .before .before .before .before .before .before in
+    let s = c16 .before .before .before .before in
+    let b = s .args .share in (
+      s .pre .0 .ppm (c16 .before .if1 .left),
+      omega (
+        arith,
+        s .pre .1,
+        c8 .before .before .before .before .before .before .put-field .ensures .0,
+        c8 .before .before .before .before .before .before .put-field .kept .1 .1 .0,
+        field-few
+            (b .top) SLASH,
+        c8 .before .put-field2 .ensures .0,
+        c8 .before .put-field2 .kept .1 .1 .0,
+        field-few (b .bottom) TAB,
+        c .before .before .before .before .put-field3 .ensures .0,
+        c .before .before .before .before .put-field3 .kept .1 .1 .0,
+        field-few (b .ppm) TAB,
+      ),
+    )
 
 put-byte-requires-2 : tie.Need-put-byte-requires-2
 put-byte-requires-2 c κs =
-    let s = c .before .before .before .before .before .before .before .before .before .before .before .before .before .before .before .before .before .before .before .before .before .before .before .before in
+    let c8 = c .before .before .before .before .before .before .before .before in
+    let c16 = c8 .before .before .before .before .before .before .before .before in
+    let c24 = c16 .before .before .before .before .before .before .before .before in
+    let s = c24 in
     let b = s .args .share in
-    omega (arith, s .pre .1, c .before .before .before .before .before .before .before .before .before .before .before .before .before .before .before .before .before .before .put-field .ensures .0, c .before .before .before .before .before .before .before .before .before .before .before .before .before .before .before .before .before .before .put-field .kept .1 .1 .0, field-few (b .top) SLASH, c .before .before .before .before .before .before .before .before .before .before .before .before .before .put-field2 .ensures .0, c .before .before .before .before .before .before .before .before .before .before .before .before .before .put-field2 .kept .1 .1 .0, field-few (b .bottom) TAB, c .before .before .before .before .before .before .before .before .put-field3 .ensures .0, c .before .before .before .before .before .before .before .before .put-field3 .kept .1 .1 .0, field-few (b .ppm) TAB, c .before .before .before .put-percent .ensures .0, c .before .before .before .put-percent .kept .1 .0, percent-few (b .ppm))
+    omega (
+      arith,
+      s .pre .1,
+      c16 .before .before .put-field .ensures .0,
+      c16 .before .before .put-field .kept .1 .1 .0,
+      field-few (b .top) SLASH,
+      c8 .before .before .before .before .before .put-field2 .ensures .0,
+      c8 .before .before .before .before .before .put-field2 .kept .1 .1 .0,
+      field-few (b .bottom) TAB,
+      c8 .put-field3 .ensures .0,
+      c8 .put-field3 .kept .1 .1 .0,
+      field-few (b .ppm) TAB,
+      c .before .before .before .put-percent .ensures .0,
+      c .before .before .before .put-percent .kept .1 .0,
+      percent-few (b .ppm),
+    )
 
 same-length-2 : tie.Need-same-length-2
-same-length-2 c = omega (arith, c .before .before .put-byte2 .kept .1 .0, c .before .before .before .before .before .before .put-percent .kept .1 .0, c .before .before .before .before .before .before .before .before .before .before .before .put-field3 .kept .1 .1 .0, c .before .before .before .before .before .before .before .before .before .before .before .before .before .before .before .before .put-field2 .kept .1 .1 .0, c .before .before .before .before .before .before .before .before .before .before .before .before .before .before .before .before .before .before .before .before .before .put-field .kept .1 .1 .0)
+same-length-2 c =
+    let c8 = c .before .before .before .before .before .before .before .before in
+    let c16 = c8 .before .before .before .before .before .before .before .before in
+    omega (
+      arith,
+      c .before .before .put-byte2 .kept .1 .0,
+      c .before .before .before .before .before .before .put-percent .kept .1 .0,
+      c8 .before .before .before .put-field3 .kept .1 .1 .0,
+      c16 .put-field2 .kept .1 .1 .0,
+      c16 .before .before .before .before .before .put-field .kept .1 .1 .0,
+    )
 
 returns-2 : tie.Need-returns-2
 returns-2 c =
-    let s = c .before .before .before .before .before .before .before .before .before .before .before .before .before .before .before .before .before .before .before .before .before .before .before .before .before .before .before in
+    let c8 = c .before .before .before .before .before .before .before .before in
+    let c16 = c8 .before .before .before .before .before .before .before .before in
+    let c24 = c16 .before .before .before .before .before .before .before .before in
+    let s = c24 .before .before .before in
     let a = s .args in
     let b = a .share in
     let d = a .out .now in
-    let p = c .before .before .before .before .before .before .before .before .before .before .before .before .before .before .before .before .before .before .before .before .before .put-field in
-    let q = c .before .before .before .before .before .before .before .before .before .before .before .before .before .before .before .before .put-field2 in
-    let r = c .before .before .before .before .before .before .before .before .before .before .before .put-field3 in
+    let p = c16 .before .before .before .before .before .put-field in
+    let q = c16 .put-field2 in
+    let r = c8 .before .before .before .put-field3 in
     let t = c .before .before .before .before .before .before .put-percent in
     let z = c .before .before .put-byte2 in
     let top = field (b .top) SLASH in
@@ -96,7 +156,7 @@ returns-2 c =
     let three = wrote-then d (a .at) (top ++ bottom) (q .result) (q .last .1 .1 .0) ppm (r .result) (r .last .1 .1 .0) h two (r .ensures) in
     let four = wrote-then d (a .at) (top ++ bottom ++ ppm) (r .result) (r .last .1 .1 .0) (percent (b .ppm)) (t .result) (t .last .1 .0) h three (t .ensures) in
     let five = wrote-then d (a .at) (top ++ bottom ++ ppm ++ percent (b .ppm)) (t .result) (t .last .1 .0) (a .end ∷ []) (z .result) (z .last .1 .0) h four (z .ensures) in
-    rw (share-some b (a .end) (c .before .before .before .before .before .before .before .before .before .before .before .before .before .before .before .before .before .before .before .before .before .before .before .before .if1 .left)) five
+    rw (share-some b (a .end) (c24 .if1 .left)) five
 
 pub put-share-spec : {M : Type 1} → statement M
 put-share-spec =

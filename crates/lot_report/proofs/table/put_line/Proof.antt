@@ -42,37 +42,109 @@ cast-put-fields-6 c = search needs
 
 put-fields-requires-2 : tie.Need-put-fields-requires-2
 put-fields-requires-2 c κs =
-    let s = c .before .before .before .before .before .before .before .before .before .before .before .before .before .before .before .before .before .before .before .before .before .before in
-    let l = s .args .lot in
-    (s .pre .0 .called, s .pre .0 .matched2, s .pre .0 .undecided2, omega (arith, s .pre .1, c .before .before .before .before .before .before .before .before .before .before .before .before .before .before .before .before .before .put-bytes .ensures .0, c .before .before .before .before .before .before .before .before .before .before .before .before .before .before .before .before .before .put-bytes .kept .1 .0, c .before .before .before .before .before .before .before .before .before .before .before .before .before .put-byte .ensures .0, c .before .before .before .before .before .before .before .before .before .before .before .before .before .put-byte .kept .1 .0, c .before .before .before .before .before .before .put-fields .ensures .0, c .before .before .before .before .before .before .put-fields .kept .1 .1 .1 .1 .0, fields-few (l .truth) (l .total .matched1) (l .total .undecided1) TAB))
+    let c8 = c .before .before .before .before .before .before .before .before in
+    let c16 = c8 .before .before .before .before .before .before .before .before in
+    let s = c16 .before .before .before .before .before .before in
+    let l = s .args .lot in (
+      s .pre .0 .called,
+      s .pre .0 .matched2,
+      s .pre .0 .undecided2,
+      omega (
+        arith,
+        s .pre .1,
+        c16 .before .put-bytes .ensures .0,
+        c16 .before .put-bytes .kept .1 .0,
+        c8 .before .before .before .before .before .put-byte .ensures .0,
+        c8 .before .before .before .before .before .put-byte .kept .1 .0,
+        c .before .before .before .before .before .before .put-fields .ensures .0,
+        c .before .before .before .before .before .before .put-fields .kept .1 .1 .1 .1 .0,
+        fields-few (l .truth) (l .total .matched1) (l .total .undecided1) TAB,
+      ),
+    )
 
 put-share-requires : tie.Need-put-share-requires
 put-share-requires c κs =
-    let s = c .before .before .before .before .before .before .before .before .before .before .before .before .before .before .before .before .before .before .before .before .before .before .before .before .before .before .before in
-    let l = s .args .lot in
-    (s .pre .0 .recall, omega (arith, s .pre .1, c .before .before .before .before .before .before .before .before .before .before .before .before .before .before .before .before .before .before .before .before .before .before .put-bytes .ensures .0, c .before .before .before .before .before .before .before .before .before .before .before .before .before .before .before .before .before .before .before .before .before .before .put-bytes .kept .1 .0, c .before .before .before .before .before .before .before .before .before .before .before .before .before .before .before .before .before .before .put-byte .ensures .0, c .before .before .before .before .before .before .before .before .before .before .before .before .before .before .before .before .before .before .put-byte .kept .1 .0, c .before .before .before .before .before .before .before .before .before .before .before .put-fields .ensures .0, c .before .before .before .before .before .before .before .before .before .before .before .put-fields .kept .1 .1 .1 .1 .0, fields-few (l .truth) (l .total .matched1) (l .total .undecided1) TAB, c .before .before .before .before .put-fields2 .ensures .0, c .before .before .before .before .put-fields2 .kept .1 .1 .1 .1 .0, fields-few (l .called) (l .total .matched2) (l .total .undecided2) TAB))
+    let c8 = c .before .before .before .before .before .before .before .before in
+    let c16 = c8 .before .before .before .before .before .before .before .before in
+    let c24 = c16 .before .before .before .before .before .before .before .before in
+    let s = c24 .before .before .before in
+    let l = s .args .lot in (
+      s .pre .0 .recall,
+      omega (
+        arith,
+        s .pre .1,
+        c16 .before .before .before .before .before .before .put-bytes .ensures .0,
+        c16 .before .before .before .before .before .before .put-bytes .kept .1 .0,
+        c16 .before .before .put-byte .ensures .0,
+        c16 .before .before .put-byte .kept .1 .0,
+        c8 .before .before .before .put-fields .ensures .0,
+        c8 .before .before .before .put-fields .kept .1 .1 .1 .1 .0,
+        fields-few (l .truth) (l .total .matched1) (l .total .undecided1) TAB,
+        c .before .before .before .before .put-fields2 .ensures .0,
+        c .before .before .before .before .put-fields2 .kept .1 .1 .1 .1 .0,
+        fields-few (l .called) (l .total .matched2) (l .total .undecided2) TAB,
+      ),
+    )
 
 put-share-requires-2 : tie.Need-put-share-requires-2
 put-share-requires-2 c κs =
-    let s = c .before .before .before .before .before .before .before .before .before .before .before .before .before .before .before .before .before .before .before .before .before .before .before .before .before .before .before .before .before .before .before .before in
-    let l = s .args .lot in
-    (s .pre .0 .precision, omega (arith, s .pre .1, c .before .before .before .before .before .before .before .before .before .before .before .before .before .before .before .before .before .before .before .before .before .before .before .before .before .before .before .put-bytes .ensures .0, c .before .before .before .before .before .before .before .before .before .before .before .before .before .before .before .before .before .before .before .before .before .before .before .before .before .before .before .put-bytes .kept .1 .0, c .before .before .before .before .before .before .before .before .before .before .before .before .before .before .before .before .before .before .before .before .before .before .before .put-byte .ensures .0, c .before .before .before .before .before .before .before .before .before .before .before .before .before .before .before .before .before .before .before .before .before .before .before .put-byte .kept .1 .0, c .before .before .before .before .before .before .before .before .before .before .before .before .before .before .before .before .put-fields .ensures .0, c .before .before .before .before .before .before .before .before .before .before .before .before .before .before .before .before .put-fields .kept .1 .1 .1 .1 .0, fields-few (l .truth) (l .total .matched1) (l .total .undecided1) TAB, c .before .before .before .before .before .before .before .before .before .put-fields2 .ensures .0, c .before .before .before .before .before .before .before .before .before .put-fields2 .kept .1 .1 .1 .1 .0, fields-few (l .called) (l .total .matched2) (l .total .undecided2) TAB, c .before .before .before .before .put-share .ensures .0, c .before .before .before .before .put-share .kept .1 .1 .0, share-few (l .recall) TAB))
+    let c8 = c .before .before .before .before .before .before .before .before in
+    let c16 = c8 .before .before .before .before .before .before .before .before in
+    let c24 = c16 .before .before .before .before .before .before .before .before in
+    let c32 = c24 .before .before .before .before .before .before .before .before in
+    let s = c32 in
+    let l = s .args .lot in (
+      s .pre .0 .precision,
+      omega (
+        arith,
+        s .pre .1,
+        c24 .before .before .before .put-bytes .ensures .0,
+        c24 .before .before .before .put-bytes .kept .1 .0,
+        c16 .before .before .before .before .before .before .before .put-byte .ensures .0,
+        c16 .before .before .before .before .before .before .before .put-byte .kept .1 .0,
+        c16 .put-fields .ensures .0,
+        c16 .put-fields .kept .1 .1 .1 .1 .0,
+        fields-few (l .truth) (l .total .matched1) (l .total .undecided1) TAB,
+        c8 .before .put-fields2 .ensures .0,
+        c8 .before .put-fields2 .kept .1 .1 .1 .1 .0,
+        fields-few (l .called) (l .total .matched2) (l .total .undecided2) TAB,
+        c .before .before .before .before .put-share .ensures .0,
+        c .before .before .before .before .put-share .kept .1 .1 .0,
+        share-few (l .recall) TAB,
+      ),
+    )
 
 same-length : tie.Need-same-length
-same-length c = omega (arith, c .before .before .put-share2 .kept .1 .1 .0, c .before .before .before .before .before .before .before .put-share .kept .1 .1 .0, c .before .before .before .before .before .before .before .before .before .before .before .before .put-fields2 .kept .1 .1 .1 .1 .0, c .before .before .before .before .before .before .before .before .before .before .before .before .before .before .before .before .before .before .before .put-fields .kept .1 .1 .1 .1 .0, c .before .before .before .before .before .before .before .before .before .before .before .before .before .before .before .before .before .before .before .before .before .before .before .before .before .before .put-byte .kept .1 .0, c .before .before .before .before .before .before .before .before .before .before .before .before .before .before .before .before .before .before .before .before .before .before .before .before .before .before .before .before .before .before .put-bytes .kept .1 .0)
+same-length c =
+    let c8 = c .before .before .before .before .before .before .before .before in
+    let c16 = c8 .before .before .before .before .before .before .before .before in
+    let c24 = c16 .before .before .before .before .before .before .before .before in
+    omega (
+      arith,
+      c .before .before .put-share2 .kept .1 .1 .0,
+      c .before .before .before .before .before .before .before .put-share .kept .1 .1 .0,
+      c8 .before .before .before .before .put-fields2 .kept .1 .1 .1 .1 .0,
+      c16 .before .before .before .put-fields .kept .1 .1 .1 .1 .0,
+      c24 .before .before .put-byte .kept .1 .0,
+      c24 .before .before .before .before .before .before .put-bytes .kept .1 .0,
+    )
 
 returns : tie.Need-returns
 unfolding lineText
 returns c =
-    let s = c .before .before .before .before .before .before .before .before .before .before .before .before .before .before .before .before .before .before .before .before .before .before .before .before .before .before .before .before .before .before .before .before .before .before .before in
+    let c8 = c .before .before .before .before .before .before .before .before in
+    let c16 = c8 .before .before .before .before .before .before .before .before in
+    let c24 = c16 .before .before .before .before .before .before .before .before in
+    let c32 = c24 .before .before .before .before .before .before .before .before in
+    let s = c32 .before .before .before in
     let a = s .args in
     let l = a .lot in
     let d = a .out .now in
     let name = a .name .now in
-    let p = c .before .before .before .before .before .before .before .before .before .before .before .before .before .before .before .before .before .before .before .before .before .before .before .before .before .before .before .before .before .before .put-bytes in
-    let q = c .before .before .before .before .before .before .before .before .before .before .before .before .before .before .before .before .before .before .before .before .before .before .before .before .before .before .put-byte in
-    let r = c .before .before .before .before .before .before .before .before .before .before .before .before .before .before .before .before .before .before .before .put-fields in
-    let t = c .before .before .before .before .before .before .before .before .before .before .before .before .put-fields2 in
+    let p = c24 .before .before .before .before .before .before .put-bytes in
+    let q = c24 .before .before .put-byte in
+    let r = c16 .before .before .before .put-fields in
+    let t = c8 .before .before .before .before .put-fields2 in
     let u = c .before .before .before .before .before .before .before .put-share in
     let z = c .before .before .put-share2 in
     let tab = TAB ∷ [] in

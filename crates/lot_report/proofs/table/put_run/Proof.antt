@@ -31,7 +31,8 @@ put-line-requires c κs =
     let s = c .before .before .before .before .before .before in
     let l = s .args .line .now in
     let r = runOn l in
-    let lot : c .before .before .lot-of-first .result ≡ lotOf (r ∷ []) = c .before .before .lot-of-first .ensures ∙ ap (λ (x : Run). lotOfFirst 1 (replicate mostRuns x)) (c .before .before .before .run-on .ensures) ∙ lot-alone r in (
+    let lot : c .before .before .lot-of-first .result ≡ lotOf (r ∷ []) = c .before .before .lot-of-first .ensures
+    ∙ ap (λ (x : Run). lotOfFirst 1 (replicate mostRuns x)) (c .before .before .before .run-on .ensures) ∙ lot-alone r in (
       rw lot (lot-printable (r ∷ []) (alone-answered r (s .pre .0 .small))),
       omega (arith, s .pre .1, ap (λ (f : List ℕ). length f) (c .before .field-from .ensures), field-length l 0, until-within TAB l 0),
     )
@@ -41,10 +42,12 @@ same-length c = search needs
 
 returns : tie.Need-returns
 returns c =
-    let a = c .before .before .before .before .before .before .before .before .before .args in
+    let c8 = c .before .before .before .before .before .before .before .before in
+    let a = c8 .before .args in
     let l = a .line .now in
     let r = runOn l in
-    let lot : c .before .before .before .before .before .lot-of-first .result ≡ lotOf (r ∷ []) = c .before .before .before .before .before .lot-of-first .ensures ∙ ap (λ (x : Run). lotOfFirst 1 (replicate mostRuns x)) (c .before .before .before .before .before .before .run-on .ensures) ∙ lot-alone r in
+    let lot : c .before .before .before .before .before .lot-of-first .result ≡ lotOf (r ∷ []) = c .before .before .before .before .before .lot-of-first .ensures
+    ∙ ap (λ (x : Run). lotOfFirst 1 (replicate mostRuns x)) (c .before .before .before .before .before .before .run-on .ensures) ∙ lot-alone r in
     let p = c .before .before .put-line in
     let name : c .before .before .before .before .field-from .result .now ≡ nameOf l = c .before .before .before .before .field-from .ensures ∙ rw (skip-zero l 0) in
     let e : lineText (c .before .before .before .before .field-from .result .now) (c .before .before .before .before .before .lot-of-first .result) ≡ runText l = rw (name, lot) in

@@ -46,21 +46,31 @@ put-run-requires c κs =
     rw e (fine-here t (p .place) (c .before .before .before .loop-test .taken) (p .inv .fine), omega (arith, room, p .inv .left .same))
 
 add-place : tie.Need-add-place Inv-loop μ-loop
-add-place c = omega (arith, c .before .before .before .before .before .find .ensures, until-within LF (c .before .before .before .before .before .before .before .before .before .before .args .text .now) (c .before .before .before .before .before .before .before .loop .place), c .before .before .before .before .before .before .before .loop .inv .inside)
+add-place c =
+    let c8 = c .before .before .before .before .before .before .before .before in
+    omega (
+      arith,
+      c .before .before .before .before .before .find .ensures,
+      until-within LF (c8 .before .before .args .text .now)
+          (c .before .before .before .before .before .before .before .loop .place),
+      c .before .before .before .before .before .before .before .loop .inv .inside,
+    )
 
 loop-less : tie.Need-loop-less Inv-loop μ-loop
 loop-less c = omega (arith, c .before .before .before .before .before .find .ensures, c .before .before .before .before .before .before .loop-test .taken)
 
 loop-again : tie.Need-loop-again Inv-loop μ-loop
 loop-again c =
-    let a = c .before .before .before .before .before .before .before .before .before .before .args in
+    let c8 = c .before .before .before .before .before .before .before .before in
+    let a = c8 .before .before .args in
     let t = a .text .now in
     let p = c .before .before .before .before .before .before .before .loop in
     let q = c .before .before .put-run in
     let e : c .before .before .before .before .before .find .result - p .place ≡ until LF (drop (p .place) t) = omega (arith, c .before .before .before .before .before .find .ensures) in
     let next : c .before .before .before .before .before .find .result + 1 ≡ nextLine t (p .place) = omega (arith, c .before .before .before .before .before .find .ensures) in
     rw next
-    (listing-more t (a .from) (a .out .now) (a .at) (p .place) (p .out) (p .next) (p .inv) (c .before .before .before .before .before .before .loop-test .taken) (q .result) (q .last .1 .0) (rw e at (q .ensures)))
+    (listing-more t (a .from) (a .out .now) (a .at) (p .place) (p .out) (p .next) (p .inv) (c .before .before .before .before .before .before .loop-test .taken) (q .result) (q .last .1 .0)
+    (rw e at (q .ensures)))
 
 same-length : tie.Need-same-length Inv-loop μ-loop
 same-length c = c .before .loop .inv .left .same

@@ -39,14 +39,26 @@ slice-aggregate-put-line c = search needs
 
 put-line-requires : tie.Need-put-line-requires
 put-line-requires c κs =
-    let s = c .before .before .before .before .before .before .before .before .before .before .before .before .before in
+    let c8 = c .before .before .before .before .before .before .before .before in
+    let s = c8 .before .before .before .before .before in
     let a = s .args in
     let t = a .text .now in
     let ls = linesOf (drop (a .from) t) in
     let h = s .pre .0 in
     let z : lotOf (runsOn ls) .number ≡ 0 = ap (λ (l : Lot). l .number) (sym (h .lot)) ∙ h .answered in (
       rw (h .lot) (lot-printable (runsOn ls) z),
-      omega (arith, s .pre .1, h .short, c .before .before .before .before .before .before .before .before .put-bytes .ensures .0, c .before .before .before .before .before .before .before .before .put-bytes .kept .1 .0, c .before .before .before .before .put-runs .ensures .0, c .before .before .before .before .put-runs .kept .1 .1 .0, runs-few t (a .from), answered-few (runsOn ls) z, length-map ls runOn),
+      omega (
+        arith,
+        s .pre .1,
+        h .short,
+        c8 .put-bytes .ensures .0,
+        c8 .put-bytes .kept .1 .0,
+        c .before .before .before .before .put-runs .ensures .0,
+        c .before .before .before .before .put-runs .kept .1 .1 .0,
+        runs-few t (a .from),
+        answered-few (runsOn ls) z,
+        length-map ls runOn,
+      ),
     )
 
 same-length : tie.Need-same-length

@@ -26,7 +26,8 @@ array-read-if1-2 : tie.Need-array-read-if1-2 Inv-loop μ-loop
 array-read-if1-2 c = omega arith
 
 returns : tie.Need-returns Inv-loop μ-loop
-returns c = let a = c .before .before .before .args in sym (sym (c .before .before .loop .inv .1) ∙ bytes-sooner (a .t1) (a .t2) (c .before .before .loop .i) (a .n) (c .before .loop-test .taken) (c .if1 .taken))
+returns c = let a = c .before .before .before .args in sym
+    (sym (c .before .before .loop .inv .1) ∙ bytes-sooner (a .t1) (a .t2) (c .before .before .loop .i) (a .n) (c .before .loop-test .taken) (c .if1 .taken))
 
 array-read-if2 : tie.Need-array-read-if2 Inv-loop μ-loop
 array-read-if2 c = omega arith
@@ -35,7 +36,9 @@ array-read-if2-2 : tie.Need-array-read-if2-2 Inv-loop μ-loop
 array-read-if2-2 c = omega arith
 
 returns-2 : tie.Need-returns-2 Inv-loop μ-loop
-returns-2 c = let a = c .before .before .before .before .args in sym (sym (c .before .before .before .loop .inv .1) ∙ bytes-later (a .t1) (a .t2) (c .before .before .before .loop .i) (a .n) (c .before .before .loop-test .taken) (c .if2 .taken))
+returns-2 c = let a =
+    c .before .before .before .before .args in sym
+    (sym (c .before .before .before .loop .inv .1) ∙ bytes-later (a .t1) (a .t2) (c .before .before .before .loop .i) (a .n) (c .before .before .loop-test .taken) (c .if2 .taken))
 
 add-i : tie.Need-add-i Inv-loop μ-loop
 add-i c = omega arith
@@ -44,7 +47,12 @@ loop-less : tie.Need-loop-less Inv-loop μ-loop
 loop-less c = omega arith
 
 loop-again : tie.Need-loop-again Inv-loop μ-loop
-loop-again c = let a = c .before .before .before .before .args in (omega arith, sym (bytes-alike (a .t1) (a .t2) (c .before .before .before .loop .i) (a .n) (c .before .before .loop-test .taken) (c .before .if1 .left) (c .if2 .left)) ∙ c .before .before .before .loop .inv .1)
+loop-again c = let a =
+    c .before .before .before .before .args in (
+      omega arith,
+      sym (bytes-alike (a .t1) (a .t2) (c .before .before .before .loop .i) (a .n) (c .before .before .loop-test .taken) (c .before .if1 .left) (c .if2 .left))
+          ∙ c .before .before .before .loop .inv .1,
+    )
 
 returns-3 : tie.Need-returns-3 Inv-loop μ-loop
 returns-3 c = let a = c .before .before .args in sym (sym (c .before .loop .inv .1) ∙ bytes-past (a .t1) (a .t2) (c .before .loop .i) (a .n) (c .loop-test .left))

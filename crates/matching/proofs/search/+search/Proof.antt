@@ -68,13 +68,17 @@ total-fits t s h =
     made-total (a .reference .now) (a .first .now) (a .second .now) (a .table .now) (a .choices) (a .ends) (a .score) (a .n) (a .left) (p .0 .few) h (p .1) (p .2)
 
 -- the buffers keep their lengths on either way through the branch
-joined-mine : (t : ℕ) (c : search-lts.Joined3 (calls t) (search-at t) search′.Post) → length (c .before .before .before .before .before .before .before .before .before .before .before .before .args .mine .now) ≡ length (c .if3 .mine)
+joined-mine : (t : ℕ) (c : search-lts.Joined3 (calls t) (search-at t) search′.Post)
+    → length (c .before .before .before .before .before .before .before .before .before .before .before .before .args .mine .now) ≡ length (c .if3 .mine)
 joined-mine t c =
-    ⊎-elim (λ w. omega (arith, ap length (w .23), w .5 .kept .1 .1 .1 .1 .1 .1 .1 .1 .1 .1 .1 .0, w .14 .kept .1 .1 .1 .1 .1 .1 .1 .1 .1 .1 .1 .0)) (λ w. omega (arith, ap length (w .1))) (c .if3 .came)
+    ⊎-elim (λ w. omega (arith, ap length (w .23), w .5 .kept .1 .1 .1 .1 .1 .1 .1 .1 .1 .1 .1 .0, w .14 .kept .1 .1 .1 .1 .1 .1 .1 .1 .1 .1 .1 .0)) (λ w. omega (arith, ap length (w .1)))
+    (c .if3 .came)
 
-joined-other : (t : ℕ) (c : search-lts.Joined3 (calls t) (search-at t) search′.Post) → length (c .before .before .before .before .before .before .before .before .before .before .before .before .args .other .now) ≡ length (c .if3 .other)
+joined-other : (t : ℕ) (c : search-lts.Joined3 (calls t) (search-at t) search′.Post)
+    → length (c .before .before .before .before .before .before .before .before .before .before .before .before .args .other .now) ≡ length (c .if3 .other)
 joined-other t c =
-    ⊎-elim (λ w. omega (arith, ap length (w .24), w .5 .kept .1 .1 .1 .1 .1 .1 .1 .1 .1 .1 .1 .1 .0, w .14 .kept .1 .1 .1 .1 .1 .1 .1 .1 .1 .1 .1 .1 .0)) (λ w. omega (arith, ap length (w .2))) (c .if3 .came)
+    ⊎-elim (λ w. omega (arith, ap length (w .24), w .5 .kept .1 .1 .1 .1 .1 .1 .1 .1 .1 .1 .1 .1 .0, w .14 .kept .1 .1 .1 .1 .1 .1 .1 .1 .1 .1 .1 .1 .0)) (λ w. omega (arith, ap length (w .2)))
+    (c .if3 .came)
 
 search-is-legal-requires : (t : ℕ) → search-lts.Need-is-legal-requires (calls t) (search-at t) search′.Post
 search-is-legal-requires t c κs =
@@ -84,38 +88,56 @@ search-is-legal-requires t c κs =
 
 search-returns : (t : ℕ) → search-lts.Need-returns (calls t) (search-at t) search′.Post
 search-returns t c =
-    let a = c .before .before .before .before .before .before .before .before .before .before .before .before .before .before .before .args in
-    let p = c .before .before .before .before .before .before .before .before .before .before .before .before .before .before .before .pre .1 in
-    search-found (a .reference .now) (a .first .now) (a .second .now) (a .table .now) (a .choices) (a .ends) (a .score) (a .n) (a .left) (c .before .before .before .before .before .before .before .before .if1 .taken) (p .2) (sym (c .before .before .before .before .before .is-legal .ensures) ∙ c .if2 .taken)
+    let c8 = c .before .before .before .before .before .before .before .before in
+    let a = c8 .before .before .before .before .before .before .before .args in
+    let p = c8 .before .before .before .before .before .before .before .pre .1 in
+    search-found (a .reference .now) (a .first .now) (a .second .now) (a .table .now) (a .choices) (a .ends) (a .score) (a .n) (a .left) (c8 .if1 .taken) (p .2)
+    (sym (c .before .before .before .before .before .is-legal .ensures) ∙ c .if2 .taken)
 
 search-returns-2 : (t : ℕ) → search-lts.Need-returns-2 (calls t) (search-at t) search′.Post
 search-returns-2 t c =
-    let a = c .before .before .before .before .before .before .before .before .before .before .before .before .before .before .before .before .args in
-    let p = c .before .before .before .before .before .before .before .before .before .before .before .before .before .before .before .before .pre .1 in
-    c .nothing .ensures ∙ search-none (a .reference .now) (a .first .now) (a .second .now) (a .table .now) (a .choices) (a .ends) (a .score) (a .n) (a .left) (c .before .before .before .before .before .before .before .before .before .if1 .taken) (p .2) (sym (c .before .before .before .before .before .before .is-legal .ensures) ∙ c .before .if2 .left)
+    let c8 = c .before .before .before .before .before .before .before .before in
+    let c16 = c8 .before .before .before .before .before .before .before .before in
+    let a = c16 .args in
+    let p = c16 .pre .1 in
+    c .nothing .ensures ∙ search-none (a .reference .now) (a .first .now) (a .second .now) (a .table .now) (a .choices) (a .ends) (a .score) (a .n) (a .left) (c8 .before .if1 .taken) (p .2)
+    (sym (c .before .before .before .before .before .before .is-legal .ensures) ∙ c .before .if2 .left)
 
 search-add-top : (t : ℕ) → search-lts.Need-add-top (calls t) (search-at t) search′.Post
-search-add-top t c = omega (arith, total-fits t (c .before .before .before .before .before .before .before .before) (c .before .if1 .left), c .before .before .before .before .before .before .before .before .pre .1 .0 .few)
+search-add-top t c =
+    let c8 = c .before .before .before .before .before .before .before .before in
+    omega (arith, total-fits t (c8) (c .before .if1 .left), c8 .pre .1 .0 .few)
 
 search-add-ends-after : (t : ℕ) → search-lts.Need-add-ends-after (calls t) (search-at t) search′.Post
 search-add-ends-after t c =
-    let a = c .before .before .before .before .before .before .before .before .before .before .before .before .before .args in
-    let p = c .before .before .before .before .before .before .before .before .before .before .before .before .before .pre .1 in
+    let c8 = c .before .before .before .before .before .before .before .before in
+    let a = c8 .before .before .before .before .before .args in
+    let p = c8 .before .before .before .before .before .pre .1 in
     let e = c .before .before .before .before .before .row-at .ensures in
-    omega (arith, c .before .before .before .before .before .before .before .before .before .before .before .before .before .good .0, p .0 .sound (a .n - a .left) (omega (arith, p .1)) .span, ap (λ (r : Row). r .start) e, ap (λ (r : Row). r .len) e)
+    omega (arith, c8 .before .before .before .before .before .good .0, p .0 .sound (a .n - a .left) (omega (arith, p .1)) .span, ap (λ (r : Row). r .start) e, ap (λ (r : Row). r .len) e)
 
 search-array-write-next : (t : ℕ) → search-lts.Need-array-write-next (calls t) (search-at t) search′.Post
 search-array-write-next t c = omega (arith, c .before .before .before .before .before .before .before .before .before .before .before .before .before .before .pre .1 .0 .few)
 
 search-add-search : (t : ℕ) → search-lts.Need-add-search (calls t) (search-at t) search′.Post
-search-add-search t c = omega (arith, total-fits t (c .before .before .before .before .before .before .before .before .before .before .before .before .before .before) (c .before .before .before .before .before .before .before .if1 .left), c .before .before .before .before .before .before .before .before .before .before .before .before .before .before .pre .1 .0 .few)
+search-add-search t c =
+    let c8 = c .before .before .before .before .before .before .before .before in
+    omega (
+      arith,
+      total-fits t (c8 .before .before .before .before .before .before) (c .before .before .before .before .before .before .before .if1 .left),
+      c8 .before .before .before .before .before .before .pre .1 .0 .few,
+    )
 
 search-search-requires : (t : ℕ) → search-lts.Need-search-requires (calls t) (search-at t) search′.Post
 search-search-requires t c κs =
-    let a = c .before .before .before .before .before .before .before .before .before .before .before .before .before .before .before .before .args in
-    let p = c .before .before .before .before .before .before .before .before .before .before .before .before .before .before .before .before .pre .1 in
-    let taken = made-taken (a .reference .now) (a .first .now) (a .second .now) (a .table .now) (a .choices) (a .ends) (a .score) (a .n) (a .left) (p .0 .few) (c .before .before .before .before .before .before .before .before .before .if1 .left) (p .1) (p .2) (c .before .before .before .before .before .before .before .before .row-at .result) (c .before .before .before .before .before .before .end-by .result) (c .before .before .before .before .before .before .before .before .row-at .ensures) (c .before .before .before .before .before .before .end-by .ensures) plus _ (c .before .before .ends-after .result) tt refl (c .before .before .ends-after .ensures) (c .before .before .before .before .if3 .taken) in
-    (omega (arith, c .before .before .before .before .before .before .before .before .before .before .before .before .before .before .before .before .pre .0, c .before .before .before .before .before .before .before .before .before .if1 .left), (p .0, omega (arith, p .1), taken))
+    let c8 = c .before .before .before .before .before .before .before .before in
+    let c16 = c8 .before .before .before .before .before .before .before .before in
+    let a = c16 .args in
+    let p = c16 .pre .1 in
+    let taken = made-taken (a .reference .now) (a .first .now) (a .second .now) (a .table .now) (a .choices) (a .ends) (a .score) (a .n) (a .left) (p .0 .few) (c8 .before .if1 .left) (p .1) (p .2)
+    (c8 .row-at .result) (c .before .before .before .before .before .before .end-by .result) (c8 .row-at .ensures) (c .before .before .before .before .before .before .end-by .ensures) plus _
+    (c .before .before .ends-after .result) tt refl (c .before .before .ends-after .ensures) (c .before .before .before .before .if3 .taken) in
+    (omega (arith, c16 .pre .0, c8 .before .if1 .left), (p .0, omega (arith, p .1), taken))
 
 search-same-length-5 : (t : ℕ) → search-lts.Need-same-length-5 (calls t) (search-at t) search′.Post
 search-same-length-5 t c = omega (arith, c .before .before .before .before .before .before .search .kept .1 .1 .1 .1 .1 .1 .1 .1 .1 .1 .1 .0)
@@ -125,67 +147,136 @@ search-same-length-6 t c = omega (arith, c .before .before .before .before .befo
 
 search-returns-3 : (t : ℕ) → search-lts.Need-returns-3 (calls t) (search-at t) search′.Post
 search-returns-3 t c =
-    let a = c .before .before .before .before .before .before .before .before .before .before .before .before .before .before .before .before .before .before .before .before .before .before .before .args in
-    let p = c .before .before .before .before .before .before .before .before .before .before .before .before .before .before .before .before .before .before .before .before .before .before .before .pre .1 in
-    search-all (a .reference .now) (a .first .now) (a .second .now) (a .table .now) (a .choices) (a .ends) (a .score) (a .n) (a .left) (p .0 .few) (c .before .before .before .before .before .before .before .before .before .before .before .before .before .before .before .before .if1 .left) (p .1) (p .2) (c .before .before .before .before .before .before .before .before .before .before .before .before .before .before .before .row-at .result) (c .before .before .before .before .before .before .before .before .before .before .before .before .before .end-by .result) (c .before .before .before .before .before .before .before .before .before .before .before .before .before .before .before .row-at .ensures) (c .before .before .before .before .before .before .before .before .before .before .before .before .before .end-by .ensures) (c .before .before .before .before .before .before .before .before .before .before .before .if3 .taken) _ refl _ (c .before .before .before .before .before .before .search .ensures) (c .if4 .taken)
+    let c8 = c .before .before .before .before .before .before .before .before in
+    let c16 = c8 .before .before .before .before .before .before .before .before in
+    let a = c16 .before .before .before .before .before .before .before .args in
+    let p = c16 .before .before .before .before .before .before .before .pre .1 in
+    search-all (a .reference .now) (a .first .now) (a .second .now) (a .table .now) (a .choices) (a .ends) (a .score) (a .n) (a .left) (p .0 .few) (c16 .if1 .left) (p .1) (p .2)
+    (c8 .before .before .before .before .before .before .before .row-at .result) (c8 .before .before .before .before .before .end-by .result)
+    (c8 .before .before .before .before .before .before .before .row-at .ensures) (c8 .before .before .before .before .before .end-by .ensures) (c8 .before .before .before .if3 .taken) _ refl _
+    (c .before .before .before .before .before .before .search .ensures) (c .if4 .taken)
 
 search-array-write-next-2 : (t : ℕ) → search-lts.Need-array-write-next-2 (calls t) (search-at t) search′.Post
-search-array-write-next-2 t c = omega (arith, c .before .before .before .before .before .before .before .before .before .before .before .before .before .before .before .before .before .before .before .before .before .before .before .pre .1 .0 .few)
+search-array-write-next-2 t c =
+    let c8 = c .before .before .before .before .before .before .before .before in
+    let c16 = c8 .before .before .before .before .before .before .before .before in
+    omega (arith, c16 .before .before .before .before .before .before .before .pre .1 .0 .few)
 
 search-add-search-2 : (t : ℕ) → search-lts.Need-add-search-2 (calls t) (search-at t) search′.Post
-search-add-search-2 t c = omega (arith, total-fits t (c .before .before .before .before .before .before .before .before .before .before .before .before .before .before .before .before .before .before .before .before .before .before .before) (c .before .before .before .before .before .before .before .before .before .before .before .before .before .before .before .before .if1 .left), c .before .before .before .before .before .before .before .before .before .before .before .before .before .before .before .before .before .before .before .before .before .before .before .pre .1 .0 .few)
+search-add-search-2 t c =
+    let c8 = c .before .before .before .before .before .before .before .before in
+    let c16 = c8 .before .before .before .before .before .before .before .before in
+    omega (arith, total-fits t (c16 .before .before .before .before .before .before .before) (c16 .if1 .left), c16 .before .before .before .before .before .before .before .pre .1 .0 .few)
 
 search-search-requires-2 : (t : ℕ) → search-lts.Need-search-requires-2 (calls t) (search-at t) search′.Post
 search-search-requires-2 t c κs =
-    let a = c .before .before .before .before .before .before .before .before .before .before .before .before .before .before .before .before .before .before .before .before .before .before .before .before .before .args in
-    let p = c .before .before .before .before .before .before .before .before .before .before .before .before .before .before .before .before .before .before .before .before .before .before .before .before .before .pre .1 in
-    let s = c .before .before .before .before .before .before .before .before .search .kept in
-    let taken = made-taken (a .reference .now) (a .first .now) (a .second .now) (a .table .now) (a .choices) (a .ends) (a .score) (a .n) (a .left) (p .0 .few) (c .before .before .before .before .before .before .before .before .before .before .before .before .before .before .before .before .before .before .if1 .left) (p .1) (p .2) (c .before .before .before .before .before .before .before .before .before .before .before .before .before .before .before .before .before .row-at .result) (c .before .before .before .before .before .before .before .before .before .before .before .before .before .before .before .end-by .result) (c .before .before .before .before .before .before .before .before .before .before .before .before .before .before .before .before .before .row-at .ensures) (c .before .before .before .before .before .before .before .before .before .before .before .before .before .before .before .end-by .ensures) minus _ (c .before .before .before .before .before .before .before .before .before .before .before .ends-after .result) tt (set-set (a .choices) (a .n - a .left) 43 45) (c .before .before .before .before .before .before .before .before .before .before .before .ends-after .ensures) (c .before .before .before .before .before .before .before .before .before .before .before .before .before .if3 .taken) in
-    (omega (arith, c .before .before .before .before .before .before .before .before .before .before .before .before .before .before .before .before .before .before .before .before .before .before .before .before .before .pre .0, c .before .before .before .before .before .before .before .before .before .before .before .before .before .before .before .before .before .before .if1 .left), (ready-room (a .reference .now) (a .first .now) (a .second .now) (a .table .now) (a .n) (a .from) (a .to) _ _ _ _ (p .0) (omega (arith, s .1 .1 .1 .1 .1 .1 .1 .1 .1 .1 .1 .0)) (omega (arith, s .1 .1 .1 .1 .1 .1 .1 .1 .1 .1 .1 .1 .0)), omega (arith, p .1), taken))
+    let c8 = c .before .before .before .before .before .before .before .before in
+    let c16 = c8 .before .before .before .before .before .before .before .before in
+    let c24 = c16 .before .before .before .before .before .before .before .before in
+    let a = c24 .before .args in
+    let p = c24 .before .pre .1 in
+    let s = c8 .search .kept in
+    let taken = made-taken (a .reference .now) (a .first .now) (a .second .now) (a .table .now) (a .choices) (a .ends) (a .score) (a .n) (a .left) (p .0 .few) (c16 .before .before .if1 .left) (p .1)
+    (p .2) (c16 .before .row-at .result) (c8 .before .before .before .before .before .before .before .end-by .result) (c16 .before .row-at .ensures)
+    (c8 .before .before .before .before .before .before .before .end-by .ensures) minus _ (c8 .before .before .before .ends-after .result) tt (set-set (a .choices) (a .n - a .left) 43 45)
+    (c8 .before .before .before .ends-after .ensures) (c8 .before .before .before .before .before .if3 .taken) in (
+      omega (arith, c24 .before .pre .0, c16 .before .before .if1 .left),
+      (
+        ready-room (a .reference .now) (a .first .now) (a .second .now) (a .table .now) (a .n) (a .from) (a .to) _ _ _ _ (p .0) (omega (arith, s .1 .1 .1 .1 .1 .1 .1 .1 .1 .1 .1 .0))
+            (omega (arith, s .1 .1 .1 .1 .1 .1 .1 .1 .1 .1 .1 .1 .0)),
+        omega (arith, p .1),
+        taken,
+      ),
+    )
 
 search-better-requires : (t : ℕ) → search-lts.Need-better-requires (calls t) (search-at t) search′.Post
-search-better-requires t c κs = c .before .before .before .before .before .before .before .before .before .before .before .before .before .before .before .before .before .before .before .before .before .before .before .before .before .before .before .before .before .before .pre .1 .0 .few
+search-better-requires t c κs =
+    let c8 = c .before .before .before .before .before .before .before .before in
+    let c16 = c8 .before .before .before .before .before .before .before .before in
+    let c24 = c16 .before .before .before .before .before .before .before .before in
+    c24 .before .before .before .before .before .before .pre .1 .0 .few
 
 search-sub-if5 : (t : ℕ) → search-lts.Need-sub-if5 (calls t) (search-at t) search′.Post
-search-sub-if5 t c = omega (arith, c .before .before .before .before .before .before .before .before .before .before .before .before .before .before .before .before .before .before .before .before .before .before .before .before .if1 .left)
+search-sub-if5 t c =
+    let c8 = c .before .before .before .before .before .before .before .before in
+    let c16 = c8 .before .before .before .before .before .before .before .before in
+    let c24 = c16 .before .before .before .before .before .before .before .before in
+    omega (arith, c24 .if1 .left)
 
 search-same-length-7 : (t : ℕ) → search-lts.Need-same-length-7 (calls t) (search-at t) search′.Post
-search-same-length-7 t c = omega (arith, c .before .before .before .before .before .before .before .before .before .before .before .before .before .before .before .before .before .search .kept .1 .1 .1 .1 .1 .1 .1 .1 .1 .1 .1 .0, c .before .before .before .before .before .before .before .before .search2 .kept .1 .1 .1 .1 .1 .1 .1 .1 .1 .1 .1 .0)
+search-same-length-7 t c =
+    let c8 = c .before .before .before .before .before .before .before .before in
+    let c16 = c8 .before .before .before .before .before .before .before .before in
+    omega (arith, c16 .before .search .kept .1 .1 .1 .1 .1 .1 .1 .1 .1 .1 .1 .0, c8 .search2 .kept .1 .1 .1 .1 .1 .1 .1 .1 .1 .1 .1 .0)
 
 search-same-length-8 : (t : ℕ) → search-lts.Need-same-length-8 (calls t) (search-at t) search′.Post
-search-same-length-8 t c = omega (arith, c .before .before .before .before .before .before .before .before .before .before .before .before .before .before .before .before .before .search .kept .1 .1 .1 .1 .1 .1 .1 .1 .1 .1 .1 .1 .0, c .before .before .before .before .before .before .before .before .search2 .kept .1 .1 .1 .1 .1 .1 .1 .1 .1 .1 .1 .1 .0)
+search-same-length-8 t c =
+    let c8 = c .before .before .before .before .before .before .before .before in
+    let c16 = c8 .before .before .before .before .before .before .before .before in
+    omega (arith, c16 .before .search .kept .1 .1 .1 .1 .1 .1 .1 .1 .1 .1 .1 .1 .0, c8 .search2 .kept .1 .1 .1 .1 .1 .1 .1 .1 .1 .1 .1 .1 .0)
 
 search-returns-4 : (t : ℕ) → search-lts.Need-returns-4 (calls t) (search-at t) search′.Post
 search-returns-4 t c =
-    let a = c .before .before .before .before .before .before .before .before .before .before .before .before .before .before .before .before .before .before .before .before .before .before .before .before .before .before .before .before .before .before .before .before .before .before .args in
-    let p = c .before .before .before .before .before .before .before .before .before .before .before .before .before .before .before .before .before .before .before .before .before .before .before .before .before .before .before .before .before .before .before .before .before .before .pre .1 in
+    let c8 = c .before .before .before .before .before .before .before .before in
+    let c16 = c8 .before .before .before .before .before .before .before .before in
+    let c24 = c16 .before .before .before .before .before .before .before .before in
+    let c32 = c24 .before .before .before .before .before .before .before .before in
+    let a = c32 .before .before .args in
+    let p = c32 .before .before .pre .1 in
     let w = both (c .before .before .before .better .result .found) _ .0 (of-true (c .if5 .taken)) in
-    search-but-one (a .reference .now) (a .first .now) (a .second .now) (a .table .now) (a .choices) (a .ends) (a .score) (a .n) (a .left) (p .0 .few) (c .before .before .before .before .before .before .before .before .before .before .before .before .before .before .before .before .before .before .before .before .before .before .before .before .before .before .before .if1 .left) (p .1) (p .2) (c .before .before .before .before .before .before .before .before .before .before .before .before .before .before .before .before .before .before .before .before .before .before .before .before .before .before .row-at .result) (c .before .before .before .before .before .before .before .before .before .before .before .before .before .before .before .before .before .before .before .before .before .before .before .before .end-by .result) (c .before .before .before .before .before .before .before .before .before .before .before .before .before .before .before .before .before .before .before .before .before .before .before .before .before .before .row-at .ensures) (c .before .before .before .before .before .before .before .before .before .before .before .before .before .before .before .before .before .before .before .before .before .before .before .before .end-by .ensures) (c .before .before .before .before .before .before .before .before .before .before .before .before .before .before .before .before .before .before .before .before .before .before .if3 .taken) _ refl _ (c .before .before .before .before .before .before .before .before .before .before .before .before .before .before .before .before .before .search .ensures) _ (set-set (a .choices) (a .n - a .left) 43 45) _ _ (c .before .before .before .before .before .before .before .before .search2 .ensures) (c .before .before .before .better .ensures) (w .0) (leb→le _ _ (w .1))
+    search-but-one (a .reference .now) (a .first .now) (a .second .now) (a .table .now) (a .choices) (a .ends) (a .score) (a .n) (a .left) (p .0 .few) (c24 .before .before .before .if1 .left) (p .1)
+    (p .2) (c24 .before .before .row-at .result) (c24 .end-by .result) (c24 .before .before .row-at .ensures) (c24 .end-by .ensures)
+    (c16 .before .before .before .before .before .before .if3 .taken) _ refl _ (c16 .before .search .ensures) _ (set-set (a .choices) (a .n - a .left) 43 45) _ _ (c8 .search2 .ensures)
+    (c .before .before .before .better .ensures) (w .0) (leb→le _ _ (w .1))
 
 search-search-requires-3 : (t : ℕ) → search-lts.Need-search-requires-3 (calls t) (search-at t) search′.Post
 search-search-requires-3 t c κs =
-    let a = c .before .before .before .before .before .before .before .before .before .before .before .before .before .before .args in
-    let p = c .before .before .before .before .before .before .before .before .before .before .before .before .before .before .pre .1 in
-    let ready = ready-room (a .reference .now) (a .first .now) (a .second .now) (a .table .now) (a .n) (a .from) (a .to) _ _ _ _ (p .0) (joined-mine t (c .before .before)) (joined-other t (c .before .before)) in
-    (omega (arith, c .before .before .before .before .before .before .before .before .before .before .before .before .before .before .pre .0, c .before .before .before .before .before .before .before .if1 .left), (ready, omega (arith, p .1), made-skipped (a .reference .now) (a .first .now) (a .second .now) (a .table .now) (a .choices) (a .ends) (a .score) (a .n) (a .left) (p .0 .few) (c .before .before .before .before .before .before .before .if1 .left) (p .1) (p .2)))
+    let c8 = c .before .before .before .before .before .before .before .before in
+    let a = c8 .before .before .before .before .before .before .args in
+    let p = c8 .before .before .before .before .before .before .pre .1 in
+    let ready = ready-room (a .reference .now) (a .first .now) (a .second .now) (a .table .now) (a .n) (a .from) (a .to) _ _ _ _ (p .0) (joined-mine t (c .before .before))
+    (joined-other t (c .before .before)) in (
+      omega (arith, c8 .before .before .before .before .before .before .pre .0, c .before .before .before .before .before .before .before .if1 .left),
+      (
+        ready,
+        omega (arith, p .1),
+        made-skipped (a .reference .now) (a .first .now) (a .second .now) (a .table .now) (a .choices) (a .ends) (a .score) (a .n) (a .left) (p .0 .few)
+            (c .before .before .before .before .before .before .before .if1 .left) (p .1) (p .2),
+      ),
+    )
 
 search-better-requires-2 : (t : ℕ) → search-lts.Need-better-requires-2 (calls t) (search-at t) search′.Post
-search-better-requires-2 t c κs = c .before .before .before .before .before .before .before .before .before .before .before .before .before .before .before .before .before .before .before .pre .1 .0 .few
+search-better-requires-2 t c κs =
+    let c8 = c .before .before .before .before .before .before .before .before in
+    let c16 = c8 .before .before .before .before .before .before .before .before in
+    c16 .before .before .before .pre .1 .0 .few
 
 search-same-length-9 : (t : ℕ) → search-lts.Need-same-length-9 (calls t) (search-at t) search′.Post
-search-same-length-9 t c = omega (arith, c .before .before .before .before .before .search3 .kept .1 .1 .1 .1 .1 .1 .1 .1 .1 .1 .1 .0, joined-mine t (c .before .before .before .before .before .before .before .before))
+search-same-length-9 t c =
+    let c8 = c .before .before .before .before .before .before .before .before in
+    omega (arith, c .before .before .before .before .before .search3 .kept .1 .1 .1 .1 .1 .1 .1 .1 .1 .1 .1 .0, joined-mine t (c8))
 
 search-same-length-10 : (t : ℕ) → search-lts.Need-same-length-10 (calls t) (search-at t) search′.Post
-search-same-length-10 t c = omega (arith, c .before .before .before .before .before .search3 .kept .1 .1 .1 .1 .1 .1 .1 .1 .1 .1 .1 .1 .0, joined-other t (c .before .before .before .before .before .before .before .before))
+search-same-length-10 t c =
+    let c8 = c .before .before .before .before .before .before .before .before in
+    omega (arith, c .before .before .before .before .before .search3 .kept .1 .1 .1 .1 .1 .1 .1 .1 .1 .1 .1 .1 .0, joined-other t (c8))
 
 search-returns-5 : (t : ℕ) → search-lts.Need-returns-5 (calls t) (search-at t) search′.Post
 search-returns-5 t c =
-    let a = c .before .before .before .before .before .before .before .before .before .before .before .before .before .before .before .before .before .before .before .before .args in
-    let p = c .before .before .before .before .before .before .before .before .before .before .before .before .before .before .before .before .before .before .before .before .pre .1 in
+    let c8 = c .before .before .before .before .before .before .before .before in
+    let c16 = c8 .before .before .before .before .before .before .before .before in
+    let a = c16 .before .before .before .before .args in
+    let p = c16 .before .before .before .before .pre .1 in
     ⊎-elim
-    (λ w. search-taken (a .reference .now) (a .first .now) (a .second .now) (a .table .now) (a .choices) (a .ends) (a .score) (a .n) (a .left) (p .0 .few) (c .before .before .before .before .before .before .before .before .before .before .before .before .before .if1 .left) (p .1) (p .2) (c .before .before .before .before .before .before .before .before .before .before .before .before .row-at .result) (c .before .before .before .before .before .before .before .before .before .before .end-by .result) (c .before .before .before .before .before .before .before .before .before .before .before .before .row-at .ensures) (c .before .before .before .before .before .before .before .before .before .before .end-by .ensures) (w .0 .taken) _ refl _ (w .5 .ensures) _ (set-set (a .choices) (a .n - a .left) 43 45) _ _ (w .14 .ensures) (w .25 ∙ w .19 .ensures) _ _ (c .before .before .before .before .before .search3 .ensures) (c .better2 .ensures))
-    (λ w. search-skipped (a .reference .now) (a .first .now) (a .second .now) (a .table .now) (a .choices) (a .ends) (a .score) (a .n) (a .left) (p .0 .few) (c .before .before .before .before .before .before .before .before .before .before .before .before .before .if1 .left) (p .1) (p .2) (c .before .before .before .before .before .before .before .before .before .before .before .before .row-at .result) (c .before .before .before .before .before .before .before .before .before .before .end-by .result) (c .before .before .before .before .before .before .before .before .before .before .before .before .row-at .ensures) (c .before .before .before .before .before .before .before .before .before .before .end-by .ensures) _ _ _ (w .0 .left) (w .3 ∙ c .before .before .before .before .before .before .before .before .before .before .before .nothing2 .ensures) (c .before .before .before .before .before .search3 .ensures) (c .better2 .ensures))
-    (c .before .before .before .before .before .before .before .before .if3 .came)
+    (λ w. search-taken (a .reference .now) (a .first .now) (a .second .now) (a .table .now) (a .choices) (a .ends) (a .score) (a .n) (a .left) (p .0 .few)
+    (c8 .before .before .before .before .before .if1 .left) (p .1) (p .2) (c8 .before .before .before .before .row-at .result) (c8 .before .before .end-by .result)
+    (c8 .before .before .before .before .row-at .ensures) (c8 .before .before .end-by .ensures) (w .0 .taken) _ refl _ (w .5 .ensures) _ (set-set (a .choices) (a .n - a .left) 43 45) _ _
+    (w .14 .ensures) (w .25 ∙ w .19 .ensures) _ _ (c .before .before .before .before .before .search3 .ensures) (c .better2 .ensures))
+    (λ w. search-skipped (a .reference .now) (a .first .now) (a .second .now) (a .table .now) (a .choices) (a .ends) (a .score) (a .n) (a .left) (p .0 .few)
+    (c8 .before .before .before .before .before .if1 .left) (p .1) (p .2) (c8 .before .before .before .before .row-at .result) (c8 .before .before .end-by .result)
+    (c8 .before .before .before .before .row-at .ensures) (c8 .before .before .end-by .ensures) _ _ _ (w .0 .left) (w .3 ∙ c8 .before .before .before .nothing2 .ensures)
+    (c .before .before .before .before .before .search3 .ensures) (c .better2 .ensures))
+    (c8 .if3 .came)
 
 pub +search-spec : {M : Type 1} → statement M
 +search-spec =

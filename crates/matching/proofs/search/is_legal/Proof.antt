@@ -31,11 +31,13 @@ loop-holds c = (omega arith, λ k h. absurd (not-suc-le-zero h), refl, refl)
 
 donors-agree-requires : tie.Need-donors-agree-requires Inv-loop μ-loop
 donors-agree-requires c κs =
-    let a = c .before .before .before .before .before .before .before .before .before .before .args in
-    let p = c .before .before .before .before .before .before .before .before .before .before .pre in
+    let c8 = c .before .before .before .before .before .before .before .before in
+    let a = c8 .before .before .args in
+    let p = c8 .before .before .pre in
     let v = c .before .before .before .loop .inv in (
       ready-room (a .reference .now) (a .first .now) (a .second .now) (a .table .now) (a .n) (a .from) (a .to) (length (a .mine .now)) (length (a .other .now)) _ _ (p .0) (sym (v .2)) (sym (v .3)),
-      λ j. keep-words (variantsFrom (a .reference .now) (a .first .now) (a .second .now) (a .table .now) 0 (a .n)) (choicesFrom (a .choices) 0 (a .n)) .0 (p .1) j (copyOf (c .before .before .before .loop .copy)),
+      λ j. keep-words (variantsFrom (a .reference .now) (a .first .now) (a .second .now) (a .table .now) 0 (a .n)) (choicesFrom (a .choices) 0 (a .n)) .0 (p .1) j
+          (copyOf (c .before .before .before .loop .copy)),
     )
 
 same-length : tie.Need-same-length Inv-loop μ-loop
@@ -46,8 +48,11 @@ same-length-2 c = omega (arith, c .before .before .before .before .before .befor
 
 returns : tie.Need-returns Inv-loop μ-loop
 returns c =
-    let a = c .before .before .before .before .before .before .before .before .before .before .before .before .before .before .before .before .args in
-    sym (legal-not (a .reference .now) (a .first .now) (a .second .now) (a .table .now) (a .choices) (a .n) (c .before .before .before .before .before .before .before .before .before .before .before .before .before .before .before .before .pre .1) (copyOf (c .before .before .before .before .before .before .before .before .before .loop .copy)) (sym (c .before .before .before .before .before .donors-agree .ensures) ∙ not-true (c .before .before .before .before .before .donors-agree .result) (c .if1 .taken)))
+    let c8 = c .before .before .before .before .before .before .before .before in
+    let c16 = c8 .before .before .before .before .before .before .before .before in
+    let a = c16 .args in
+    sym (legal-not (a .reference .now) (a .first .now) (a .second .now) (a .table .now) (a .choices) (a .n) (c16 .pre .1) (copyOf (c8 .before .loop .copy))
+    (sym (c .before .before .before .before .before .donors-agree .ensures) ∙ not-true (c .before .before .before .before .before .donors-agree .result) (c .if1 .taken)))
 
 add-copy : tie.Need-add-copy Inv-loop μ-loop
 add-copy c = omega arith
@@ -57,11 +62,14 @@ loop-less c = omega arith
 
 loop-again : tie.Need-loop-again Inv-loop μ-loop
 loop-again c =
-    let a = c .before .before .before .before .before .before .before .before .before .before .before .before .before .before .before .before .args in (
+    let c8 = c .before .before .before .before .before .before .before .before in
+    let c16 = c8 .before .before .before .before .before .before .before .before in
+    let a = c16 .args in (
       omega arith,
-      one-more (λ k. oneDonor? (a .reference .now) (a .first .now) (a .second .now) (a .table .now) (a .choices) (copyOf k) (a .n) ≡ true) (c .before .before .before .before .before .before .before .before .before .loop .copy) (c .before .before .before .before .before .before .before .before .before .loop .inv .1) (sym (c .before .before .before .before .before .donors-agree .ensures) ∙ not-false (c .before .before .before .before .before .donors-agree .result) (c .if1 .left)),
-      omega (arith, c .before .before .before .before .before .before .before .before .before .loop .inv .2),
-      omega (arith, c .before .before .before .before .before .before .before .before .before .loop .inv .3),
+      one-more (λ k. oneDonor? (a .reference .now) (a .first .now) (a .second .now) (a .table .now) (a .choices) (copyOf k) (a .n) ≡ true) (c8 .before .loop .copy) (c8 .before .loop .inv .1)
+          (sym (c .before .before .before .before .before .donors-agree .ensures) ∙ not-false (c .before .before .before .before .before .donors-agree .result) (c .if1 .left)),
+      omega (arith, c8 .before .loop .inv .2),
+      omega (arith, c8 .before .loop .inv .3),
     )
 
 same-length-3 : tie.Need-same-length-3 Inv-loop μ-loop
@@ -72,8 +80,9 @@ same-length-4 c = c .before .loop .inv .3
 
 returns-2 : tie.Need-returns-2 Inv-loop μ-loop
 returns-2 c =
-    let a = c .before .before .before .before .before .before .before .before .args in
-    sym (legal-all (a .reference .now) (a .first .now) (a .second .now) (a .table .now) (a .choices) (a .n) (c .before .before .before .before .before .before .before .before .pre .1) (λ k h. c .before .loop .inv .1 k (omega arith)))
+    let c8 = c .before .before .before .before .before .before .before .before in
+    let a = c8 .args in
+    sym (legal-all (a .reference .now) (a .first .now) (a .second .now) (a .table .now) (a .choices) (a .n) (c8 .pre .1) (λ k h. c .before .loop .inv .1 k (omega arith)))
 
 pub is-legal-spec : {M : Type 1} → statement M
 is-legal-spec =

@@ -65,7 +65,8 @@ loop-less c = omega arith
 
 loop-again : tie.Need-loop-again Inv-loop μ-loop
 loop-again c =
-    let x = c .before .before .before .before .before .before .before .before .before .before .before .args in
+    let c8 = c .before .before .before .before .before .before .before .before in
+    let x = c8 .before .before .before .args in
     let r = basesOf (x .reference .now) in
     let a = basesOf (x .a .now) in
     let b = basesOf (x .b .now) in
@@ -73,7 +74,8 @@ loop-again c =
     let q = c .before .before .before .before .before .before .loop .q in (
       omega arith,
       below-more (λ i. T (backAlike? r (three (x .start) a b d) i)) q (c .before .before .before .before .before .before .loop .inv .1)
-          (alike (backAt r (x .start .0) q) a b d (c .before .before .before .before .back-at .ensures) (c .before .before .before .back-at2 .ensures) (c .before .back-at3 .ensures) (c .before .before .if1 .left) (c .if2 .left)),
+          (alike (backAt r (x .start .0) q) a b d (c .before .before .before .before .back-at .ensures) (c .before .before .before .back-at2 .ensures) (c .before .back-at3 .ensures)
+          (c .before .before .if1 .left) (c .if2 .left)),
     )
 
 returns-3 : tie.Need-returns-3 Inv-loop μ-loop

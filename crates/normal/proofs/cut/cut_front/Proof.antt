@@ -42,13 +42,15 @@ letter-requires-2 c κs = search needs
 
 returns : tie.Need-returns Inv-loop μ-loop
 returns c =
-    let x = c .before .before .before .before .before .before .before .before .before .before .args in
+    let c8 = c .before .before .before .before .before .before .before .before in
+    let x = c8 .before .before .args in
     let a = x .a .now in
     let b = x .b .now in
     let d = x .c .now in
     let t = c .before .before .before .before .before .before .loop .t in
     sym (run-is (frontAlike? (three (record { 0 = 0 }) (basesOf a) (basesOf b) (basesOf d))) (x .most) t (omega arith) (c .before .before .before .before .before .before .loop .inv .1)
-    (λ l h. c .if1 .taken (alike-first (λ y. getD y t 0) (basesOf a) (basesOf b) (basesOf d) (letter-at a t (c .before .before .before .letter .ensures)) (letter-at b t (c .before .letter2 .ensures)) h)))
+    (λ l h. c .if1 .taken
+    (alike-first (λ y. getD y t 0) (basesOf a) (basesOf b) (basesOf d) (letter-at a t (c .before .before .before .letter .ensures)) (letter-at b t (c .before .letter2 .ensures)) h)))
 
 shared-slice-read-letter-3 : tie.Need-shared-slice-read-letter-3 Inv-loop μ-loop
 shared-slice-read-letter-3 c = omega arith
@@ -58,13 +60,16 @@ letter-requires-3 c κs = search needs
 
 returns-2 : tie.Need-returns-2 Inv-loop μ-loop
 returns-2 c =
-    let x = c .before .before .before .before .before .before .before .before .before .before .before .before .before .args in
+    let c8 = c .before .before .before .before .before .before .before .before in
+    let x = c8 .before .before .before .before .before .args in
     let a = x .a .now in
     let b = x .b .now in
     let d = x .c .now in
-    let t = c .before .before .before .before .before .before .before .before .before .loop .t in
-    sym (run-is (frontAlike? (three (record { 0 = 0 }) (basesOf a) (basesOf b) (basesOf d))) (x .most) t (omega arith) (c .before .before .before .before .before .before .before .before .before .loop .inv .1)
-    (λ l h. c .if2 .taken (alike-second (λ y. getD y t 0) (basesOf a) (basesOf b) (basesOf d) (letter-at a t (c .before .before .before .before .before .before .letter .ensures)) (letter-at d t (c .before .letter3 .ensures)) h)))
+    let t = c8 .before .loop .t in
+    sym (run-is (frontAlike? (three (record { 0 = 0 }) (basesOf a) (basesOf b) (basesOf d))) (x .most) t (omega arith) (c8 .before .loop .inv .1)
+    (λ l h. c .if2 .taken
+    (alike-second (λ y. getD y t 0) (basesOf a) (basesOf b) (basesOf d) (letter-at a t (c .before .before .before .before .before .before .letter .ensures))
+    (letter-at d t (c .before .letter3 .ensures)) h)))
 
 add-t : tie.Need-add-t Inv-loop μ-loop
 add-t c = omega arith
@@ -74,14 +79,16 @@ loop-less c = omega arith
 
 loop-again : tie.Need-loop-again Inv-loop μ-loop
 loop-again c =
-    let x = c .before .before .before .before .before .before .before .before .before .before .before .before .before .args in
+    let c8 = c .before .before .before .before .before .before .before .before in
+    let x = c8 .before .before .before .before .before .args in
     let a = x .a .now in
     let b = x .b .now in
     let d = x .c .now in
-    let t = c .before .before .before .before .before .before .before .before .before .loop .t in (
+    let t = c8 .before .loop .t in (
       omega arith,
-      below-more (λ i. T (frontAlike? (three (record { 0 = 0 }) (basesOf a) (basesOf b) (basesOf d)) i)) t (c .before .before .before .before .before .before .before .before .before .loop .inv .1)
-          (alike (λ y. getD y t 0) (basesOf a) (basesOf b) (basesOf d) (letter-at a t (c .before .before .before .before .before .before .letter .ensures)) (letter-at b t (c .before .before .before .before .letter2 .ensures)) (letter-at d t (c .before .letter3 .ensures)) (c .before .before .before .if1 .left) (c .if2 .left)),
+      below-more (λ i. T (frontAlike? (three (record { 0 = 0 }) (basesOf a) (basesOf b) (basesOf d)) i)) t (c8 .before .loop .inv .1)
+          (alike (λ y. getD y t 0) (basesOf a) (basesOf b) (basesOf d) (letter-at a t (c .before .before .before .before .before .before .letter .ensures))
+          (letter-at b t (c .before .before .before .before .letter2 .ensures)) (letter-at d t (c .before .letter3 .ensures)) (c .before .before .before .if1 .left) (c .if2 .left)),
     )
 
 returns-3 : tie.Need-returns-3 Inv-loop μ-loop

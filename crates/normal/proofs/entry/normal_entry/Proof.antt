@@ -26,50 +26,61 @@ entry-cuts-requires c κs = (c .before .before .before .before .pre, c .place-of
 add-new-start : tie.Need-add-new-start
 add-new-start c =
     let x = c .before .before .before .before .before .before .before .args in
-    let k = bounds (x .reference .now) (x .text .now) (x .entry) (c .before .before .before .before .before .before .before .pre) (c .before .before .entry-cuts .result) (c .before .before .entry-cuts .ensures) in
+    let k = bounds (x .reference .now) (x .text .now) (x .entry) (c .before .before .before .before .before .before .before .pre) (c .before .before .entry-cuts .result)
+    (c .before .before .entry-cuts .ensures) in
     let st = c .before .before .before .before .before .before .before .pre in
     omega (arith, ap (λ (p : Place). p .0) (c .before .before .before .place-of .ensures))
 
 taken-in-requires : tie.Need-taken-in-requires
 taken-in-requires c κs =
     let x = c .before .before .before .before .before .before .before .args in
-    let k = bounds (x .reference .now) (x .text .now) (x .entry) (c .before .before .before .before .before .before .before .pre) (c .before .before .entry-cuts .result) (c .before .before .entry-cuts .ensures) in
+    let k = bounds (x .reference .now) (x .text .now) (x .entry) (c .before .before .before .before .before .before .before .pre) (c .before .before .entry-cuts .result)
+    (c .before .before .entry-cuts .ensures) in
     let st = c .before .before .before .before .before .before .before .pre in
     omega arith
 
 sub-new-start : tie.Need-sub-new-start
 sub-new-start c =
-    let x = c .before .before .before .before .before .before .before .before .args in
-    let k = bounds (x .reference .now) (x .text .now) (x .entry) (c .before .before .before .before .before .before .before .before .pre) (c .before .before .before .entry-cuts .result) (c .before .before .before .entry-cuts .ensures) in
-    let st = c .before .before .before .before .before .before .before .before .pre in
+    let c8 = c .before .before .before .before .before .before .before .before in
+    let x = c8 .args in
+    let k = bounds (x .reference .now) (x .text .now) (x .entry) (c8 .pre) (c .before .before .before .entry-cuts .result) (c .before .before .before .entry-cuts .ensures) in
+    let st = c8 .pre in
     omega (arith, ap (λ (p : Place). p .0) (c .before .before .before .before .place-of .ensures))
 
 add-t9 : tie.Need-add-t9
 add-t9 c =
-    let x = c .before .before .before .before .before .before .before .before .before .before .before .args in
-    let k = bounds (x .reference .now) (x .text .now) (x .entry) (c .before .before .before .before .before .before .before .before .before .before .before .pre) (c .before .before .before .before .before .before .entry-cuts .result) (c .before .before .before .before .before .before .entry-cuts .ensures) in
-    let st = c .before .before .before .before .before .before .before .before .before .before .before .pre in
+    let c8 = c .before .before .before .before .before .before .before .before in
+    let x = c8 .before .before .before .args in
+    let k = bounds (x .reference .now) (x .text .now) (x .entry) (c8 .before .before .before .pre) (c .before .before .before .before .before .before .entry-cuts .result)
+    (c .before .before .before .before .before .before .entry-cuts .ensures) in
+    let st = c8 .before .before .before .pre in
     omega (arith, ap (λ (p : Place). p .0) (c .before .before .before .before .before .before .before .place-of .ensures))
 
 sub-t10 : tie.Need-sub-t10
 sub-t10 c =
-    let x = c .before .before .before .before .before .before .before .before .before .before .before .before .args in
-    let k = bounds (x .reference .now) (x .text .now) (x .entry) (c .before .before .before .before .before .before .before .before .before .before .before .before .pre) (c .before .before .before .before .before .before .before .entry-cuts .result) (c .before .before .before .before .before .before .before .entry-cuts .ensures) in
-    let st = c .before .before .before .before .before .before .before .before .before .before .before .before .pre in
-    omega (arith, ap (λ (p : Place). p .0) (c .before .before .before .before .before .before .before .before .place-of .ensures))
+    let c8 = c .before .before .before .before .before .before .before .before in
+    let x = c8 .before .before .before .before .args in
+    let k = bounds (x .reference .now) (x .text .now) (x .entry) (c8 .before .before .before .before .pre) (c .before .before .before .before .before .before .before .entry-cuts .result)
+    (c .before .before .before .before .before .before .before .entry-cuts .ensures) in
+    let st = c8 .before .before .before .before .pre in
+    omega (arith, ap (λ (p : Place). p .0) (c8 .place-of .ensures))
 
 sub-t12 : tie.Need-sub-t12
 sub-t12 c =
-    let x = c .before .before .before .before .before .before .before .before .before .before .before .before .args in
-    let k = bounds (x .reference .now) (x .text .now) (x .entry) (c .before .before .before .before .before .before .before .before .before .before .before .before .pre) (c .before .before .before .before .before .before .before .entry-cuts .result) (c .before .before .before .before .before .before .before .entry-cuts .ensures) in
-    let st = c .before .before .before .before .before .before .before .before .before .before .before .before .pre in
-    omega (arith, ap (λ (p : Place). p .0) (c .before .before .before .before .before .before .before .before .place-of .ensures))
+    let c8 = c .before .before .before .before .before .before .before .before in
+    let x = c8 .before .before .before .before .args in
+    let k = bounds (x .reference .now) (x .text .now) (x .entry) (c8 .before .before .before .before .pre) (c .before .before .before .before .before .before .before .entry-cuts .result)
+    (c .before .before .before .before .before .before .before .entry-cuts .ensures) in
+    let st = c8 .before .before .before .before .pre in
+    omega (arith, ap (λ (p : Place). p .0) (c8 .place-of .ensures))
 
 spelled-part-requires : tie.Need-spelled-part-requires
 spelled-part-requires c κs =
-    let x = c .before .before .before .before .before .before .before .before .before .before .before .before .args in
-    let k = bounds (x .reference .now) (x .text .now) (x .entry) (c .before .before .before .before .before .before .before .before .before .before .before .before .pre) (c .before .before .before .before .before .before .before .entry-cuts .result) (c .before .before .before .before .before .before .before .entry-cuts .ensures) in
-    let st = c .before .before .before .before .before .before .before .before .before .before .before .before .pre in
+    let c8 = c .before .before .before .before .before .before .before .before in
+    let x = c8 .before .before .before .before .args in
+    let k = bounds (x .reference .now) (x .text .now) (x .entry) (c8 .before .before .before .before .pre) (c .before .before .before .before .before .before .before .entry-cuts .result)
+    (c .before .before .before .before .before .before .before .entry-cuts .ensures) in
+    let st = c8 .before .before .before .before .pre in
     (omega arith, omega arith, omega arith, omega arith)
 
 last-alt-requires : tie.Need-last-alt-requires
@@ -77,20 +88,24 @@ last-alt-requires c κs = search needs
 
 spelled-part-requires-2 : tie.Need-spelled-part-requires-2
 spelled-part-requires-2 c κs =
-    let x = c .before .before .before .before .before .before .before .before .before .before .before .before .before .before .args in
-    let k = bounds (x .reference .now) (x .text .now) (x .entry) (c .before .before .before .before .before .before .before .before .before .before .before .before .before .before .pre) (c .before .before .before .before .before .before .before .before .before .entry-cuts .result) (c .before .before .before .before .before .before .before .before .before .entry-cuts .ensures) in
-    let st = c .before .before .before .before .before .before .before .before .before .before .before .before .before .before .pre in
+    let c8 = c .before .before .before .before .before .before .before .before in
+    let x = c8 .before .before .before .before .before .before .args in
+    let k = bounds (x .reference .now) (x .text .now) (x .entry) (c8 .before .before .before .before .before .before .pre) (c8 .before .entry-cuts .result) (c8 .before .entry-cuts .ensures) in
+    let st = c8 .before .before .before .before .before .before .pre in
     let l : c .last-alt .result ≡ lastAlt (x .entry) = c .last-alt .ensures in
     let at = ap (λ (p : Part). p .at) l in
     let len = ap (λ (p : Part). p .len) l in
-    (omega arith, omega arith, omega arith, omega (arith, c .before .before .before .before .before .before .before .before .before .before .before .before .before .before .good))
+    (omega arith, omega arith, omega arith, omega (arith, c8 .before .before .before .before .before .before .good))
 
 returns : tie.Need-returns
 returns c =
-    let x = c .before .before .before .before .before .before .before .before .before .before .before .before .before .before .before .args in
-    normal-entry-of (x .reference .now) (x .text .now) (x .entry) (c .before .before .before .before .before .before .before .before .before .before .before .place-of .result) (c .before .before .before .before .before .before .before .before .before .before .entry-cuts .result) (c .before .before .before .before .before .before .before .taken-in .result) (c .before .before .spelled-part .result) (c .spelled-part2 .result)
-    (c .before .before .before .before .before .before .before .before .before .before .before .place-of .ensures) (c .before .before .before .before .before .before .before .before .before .before .entry-cuts .ensures) (c .before .before .before .before .before .before .before .taken-in .ensures) (c .before .before .spelled-part .ensures)
-    (c .spelled-part2 .ensures ∙ ap (spelled (c .before .before .before .before .before .before .before .before .before .before .entry-cuts .result)) (c .before .last-alt .ensures))
+    let c8 = c .before .before .before .before .before .before .before .before in
+    let x = c8 .before .before .before .before .before .before .before .args in
+    normal-entry-of (x .reference .now) (x .text .now) (x .entry) (c8 .before .before .before .place-of .result) (c8 .before .before .entry-cuts .result)
+    (c .before .before .before .before .before .before .before .taken-in .result) (c .before .before .spelled-part .result) (c .spelled-part2 .result)
+    (c8 .before .before .before .place-of .ensures) (c8 .before .before .entry-cuts .ensures) (c .before .before .before .before .before .before .before .taken-in .ensures)
+    (c .before .before .spelled-part .ensures)
+    (c .spelled-part2 .ensures ∙ ap (spelled (c8 .before .before .entry-cuts .result)) (c .before .last-alt .ensures))
 
 pub normal-entry-spec : {M : Type 1} → statement M
 normal-entry-spec =

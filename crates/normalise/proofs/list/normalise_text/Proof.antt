@@ -58,25 +58,30 @@ cast-refused-text-3 c = search needs
 
 refused-text-requires-2 : tie.Need-refused-text-requires-2
 refused-text-requires-2 c κs =
-    let a = c .before .before .before .before .before .before .before .before .before .before .before .before .before .before .before .before .before .args in
-    let ends = sym (c .before .before .before .before .before .before .before .before .before .before .before .before .before .ends-in-lf .ensures) ∙ not-false _ (c .before .before .before .before .before .before .before .before .before .before .before .before .if1 .left) in
-    let w = c .before .before .before .before .before .before .before .before .normal in
+    let c8 = c .before .before .before .before .before .before .before .before in
+    let c16 = c8 .before .before .before .before .before .before .before .before in
+    let a = c16 .before .args in
+    let ends = sym (c8 .before .before .before .before .before .ends-in-lf .ensures) ∙ not-false _ (c8 .before .before .before .before .if1 .left) in
+    let w = c8 .normal in
     let m = w .result in
     let e = w .ensures in
-    let p = answer-printable (a .file .now) (a .text .now) (a .out .now) ends (c .before .before .before .before .before .before .before .before .before .before .before .before .before .before .before .before .before .pre .0) m (e .0) (c .before .before .before .before .if2 .taken) in
-    (p .0, p .1, p .2, omega (arith, c .before .before .before .before .before .before .before .before .before .before .before .before .before .before .before .before .before .pre .1, w .kept .1 .1 .1 .0))
+    let p = answer-printable (a .file .now) (a .text .now) (a .out .now) ends (c16 .before .pre .0) m (e .0) (c .before .before .before .before .if2 .taken) in
+    (p .0, p .1, p .2, omega (arith, c16 .before .pre .1, w .kept .1 .1 .1 .0))
 
 same-length-2 : tie.Need-same-length-2
 same-length-2 c = search needs
 
 returns-2 : tie.Need-returns-2
 returns-2 c =
-    let a = c .before .before .before .before .before .before .before .before .before .before .before .before .before .before .before .before .before .before .before .before .args in
-    let ends = sym (c .before .before .before .before .before .before .before .before .before .before .before .before .before .before .before .before .ends-in-lf .ensures) ∙ not-false _ (c .before .before .before .before .before .before .before .before .before .before .before .before .before .before .before .if1 .left) in
-    let w = c .before .before .before .before .before .before .before .before .before .before .before .normal in
+    let c8 = c .before .before .before .before .before .before .before .before in
+    let c16 = c8 .before .before .before .before .before .before .before .before in
+    let a = c16 .before .before .before .before .args in
+    let ends = sym (c16 .ends-in-lf .ensures) ∙ not-false _ (c8 .before .before .before .before .before .before .before .if1 .left) in
+    let w = c8 .before .before .before .normal in
     let m = w .result in
     let e = w .ensures in
-    let t = text-refused (a .file .now) (a .text .now) (a .out .now) ends (c .before .before .before .before .before .before .before .before .before .before .before .before .before .before .before .before .before .before .before .before .pre .0) m (e .0) (c .before .before .before .before .before .before .before .if2 .taken) in
+    let t = text-refused (a .file .now) (a .text .now) (a .out .now) ends (c16 .before .before .before .before .pre .0) m (e .0)
+    (c .before .before .before .before .before .before .before .if2 .taken) in
     let v = c .before .before .refused-text2 .ensures in
     let line = refusedText (m .number) (m .list) (m .line) in
     (v .0 ∙ ap length (sym (t .0)), v .1 ∙ ap (λ (l : List ℕ). put l 0 line) (e .1 ∙ t .1) ∙ ap (put (a .out .now) 0) (sym (t .0)))
@@ -89,12 +94,13 @@ same-length-3 c = search needs
 
 returns-3 : tie.Need-returns-3
 returns-3 c =
-    let a = c .before .before .before .before .before .before .before .before .before .before .before .before .before .before .args in
-    let ends = sym (c .before .before .before .before .before .before .before .before .before .before .ends-in-lf .ensures) ∙ not-false _ (c .before .before .before .before .before .before .before .before .before .if1 .left) in
+    let c8 = c .before .before .before .before .before .before .before .before in
+    let a = c8 .before .before .before .before .before .before .args in
+    let ends = sym (c8 .before .before .ends-in-lf .ensures) ∙ not-false _ (c8 .before .if1 .left) in
     let w = c .before .before .before .before .before .normal in
     let m = w .result in
     let e = w .ensures in
-    let g = text-given (a .file .now) (a .text .now) (a .out .now) ends (c .before .before .before .before .before .before .before .before .before .before .before .before .before .before .pre .0) m (e .0) (c .before .if2 .left) in
+    let g = text-given (a .file .now) (a .text .now) (a .out .now) ends (c8 .before .before .before .before .before .before .pre .0) m (e .0) (c .before .if2 .left) in
     (g .0, e .1 ∙ g .1)
 
 pub normalise-text-spec : {M : Type 1} → statement M

@@ -39,8 +39,10 @@ same-length c = search needs
 
 returns-2 : tie.Need-returns-2
 returns-2 c =
-    let a = c .before .before .before .before .before .before .before .before .before .before .before .before .args in
-    let p = closed-files (a .file .now) (a .first .now) (a .second .now) (a .marks .now) (sym (c .before .before .before .before .before .before .before .ends-in-lf .ensures) ∙ not-false _ (c .before .before .before .before .before .before .if1 .left)) in
+    let c8 = c .before .before .before .before .before .before .before .before in
+    let a = c8 .before .before .before .before .args in
+    let p = closed-files (a .file .now) (a .first .now) (a .second .now) (a .marks .now)
+    (sym (c .before .before .before .before .before .before .before .ends-in-lf .ensures) ∙ not-false _ (c .before .before .before .before .before .before .if1 .left)) in
     let r = c .before .before .marked-lists .ensures in
     (r .0 ∙ sym (p .0), r .1 ∙ sym (p .1), r .2 ∙ sym (p .2))
 

@@ -80,37 +80,54 @@ alt-count-requires : tie.Need-alt-count-requires
 alt-count-requires c κs = search needs
 
 shared-slice-read-t21 : tie.Need-shared-slice-read-t21
-shared-slice-read-t21 c = let w = copies-read (c .before .before .before .before .before .before .before .before .before .before .before .args .line .now) (readable-right (c .before .before .before .before .before .before .before .before .before .before .before .args .line .now) (c .before .before .before .before .before .before .before .before .before .before .before .pre .0)) (sample-read (c .before .before .before .before .before .before .before .before .before .before .before .args .line .now) (c .before .before .before .before .before .before .before .before .before .fields-of .ensures) (c .before .before .before .before .field-from3 .ensures) (c .before .before .before .genotype-of .ensures)) in rw (w .long) (lit< tt)
+shared-slice-read-t21 c =
+    let c8 = c .before .before .before .before .before .before .before .before in
+    let w = copies-read (c8 .before .before .before .args .line .now) (readable-right (c8 .before .before .before .args .line .now) (c8 .before .before .before .pre .0))
+    (sample-read (c8 .before .before .before .args .line .now) (c8 .before .fields-of .ensures) (c .before .before .before .before .field-from3 .ensures)
+    (c .before .before .before .genotype-of .ensures)) in rw (w .long) (lit< tt)
 
 sub-t22 : tie.Need-sub-t22
-sub-t22 c = copies-read (c .before .before .before .before .before .before .before .before .before .before .before .args .line .now) (readable-right (c .before .before .before .before .before .before .before .before .before .before .before .args .line .now) (c .before .before .before .before .before .before .before .before .before .before .before .pre .0)) (sample-read (c .before .before .before .before .before .before .before .before .before .before .before .args .line .now) (c .before .before .before .before .before .before .before .before .before .fields-of .ensures) (c .before .before .before .before .field-from3 .ensures) (c .before .before .before .genotype-of .ensures)) .first
+sub-t22 c =
+    let c8 = c .before .before .before .before .before .before .before .before in
+    copies-read (c8 .before .before .before .args .line .now) (readable-right (c8 .before .before .before .args .line .now) (c8 .before .before .before .pre .0))
+    (sample-read (c8 .before .before .before .args .line .now) (c8 .before .fields-of .ensures) (c .before .before .before .before .field-from3 .ensures)
+    (c .before .before .before .genotype-of .ensures)) .first
 
 cast-t23 : tie.Need-cast-t23
 cast-t23 c = omega (arith, c .shared-slice-known2 .given 0)
 
 shared-slice-read-t25 : tie.Need-shared-slice-read-t25
-shared-slice-read-t25 c = let w = copies-read (c .before .before .before .before .before .before .before .before .before .before .before .before .args .line .now) (readable-right (c .before .before .before .before .before .before .before .before .before .before .before .before .args .line .now) (c .before .before .before .before .before .before .before .before .before .before .before .before .pre .0)) (sample-read (c .before .before .before .before .before .before .before .before .before .before .before .before .args .line .now) (c .before .before .before .before .before .before .before .before .before .before .fields-of .ensures) (c .before .before .before .before .before .field-from3 .ensures) (c .before .before .before .before .genotype-of .ensures)) in rw (w .long) (lit< tt)
+shared-slice-read-t25 c =
+    let c8 = c .before .before .before .before .before .before .before .before in
+    let w = copies-read (c8 .before .before .before .before .args .line .now) (readable-right (c8 .before .before .before .before .args .line .now) (c8 .before .before .before .before .pre .0))
+    (sample-read (c8 .before .before .before .before .args .line .now) (c8 .before .before .fields-of .ensures) (c .before .before .before .before .before .field-from3 .ensures)
+    (c .before .before .before .before .genotype-of .ensures)) in rw (w .long) (lit< tt)
 
 sub-t26 : tie.Need-sub-t26
-sub-t26 c = copies-read (c .before .before .before .before .before .before .before .before .before .before .before .before .args .line .now) (readable-right (c .before .before .before .before .before .before .before .before .before .before .before .before .args .line .now) (c .before .before .before .before .before .before .before .before .before .before .before .before .pre .0)) (sample-read (c .before .before .before .before .before .before .before .before .before .before .before .before .args .line .now) (c .before .before .before .before .before .before .before .before .before .before .fields-of .ensures) (c .before .before .before .before .before .field-from3 .ensures) (c .before .before .before .before .genotype-of .ensures)) .last
+sub-t26 c =
+    let c8 = c .before .before .before .before .before .before .before .before in
+    copies-read (c8 .before .before .before .before .args .line .now) (readable-right (c8 .before .before .before .before .args .line .now) (c8 .before .before .before .before .pre .0))
+    (sample-read (c8 .before .before .before .before .args .line .now) (c8 .before .before .fields-of .ensures) (c .before .before .before .before .before .field-from3 .ensures)
+    (c .before .before .before .before .genotype-of .ensures)) .last
 
 cast-t27 : tie.Need-cast-t27
 cast-t27 c = omega (arith, c .shared-slice-known3 .given 2)
 
 returns : tie.Need-returns
 returns c =
-    let l = c .before .before .before .before .before .before .before .before .before .before .before .before .args .line .now in
-    let f = read l (c .before .before .before .before .before .before .before .before .before .before .fields-of .result) (c .before .before .before .before .before .before .before .before .before .before .fields-of .ensures) in
-    entry-is l (c .before .before .before .before .before .before .before .before .before .before .before .before .args .at)
-    (c .before .before .before .before .before .before .before .before .before .pos-on .ensures)
+    let c8 = c .before .before .before .before .before .before .before .before in
+    let l = c8 .before .before .before .before .args .line .now in
+    let f = read l (c8 .before .before .fields-of .result) (c8 .before .before .fields-of .ensures) in
+    entry-is l (c8 .before .before .before .before .args .at)
+    (c8 .before .pos-on .ensures)
     (f .reference)
-    (c .before .before .before .before .before .before .before .before .field-from .ensures)
+    (c8 .field-from .ensures)
     (f .alt)
     (c .before .before .before .before .before .before .before .field-from2 .ensures)
     (c .before .before .before .before .before .before .find .ensures)
     (c .before .before .before .second-part .ensures)
     (c .before .before .alt-count .ensures)
-    (sample-read l (c .before .before .before .before .before .before .before .before .before .before .fields-of .ensures) (c .before .before .before .before .before .field-from3 .ensures) (c .before .before .before .before .genotype-of .ensures))
+    (sample-read l (c8 .before .before .fields-of .ensures) (c .before .before .before .before .before .field-from3 .ensures) (c .before .before .before .before .genotype-of .ensures))
 
 pub entry-on-spec : {M : Type 1} → statement M
 entry-on-spec =

@@ -26,13 +26,19 @@ skip-fields-requires-3 c κs =
 skip-fields-requires-4 : tie.Need-skip-fields-requires-4
 skip-fields-requires-4 c κs =
     let l = c .before .before .before .before .args .line .now in
-    let e : c .skip-fields3 .result ≡ fieldAt 4 l = field-on 3 1 (c .before .before .before .before .args .line .now) (field-on 1 2 (c .before .before .before .before .args .line .now) (c .before .before .skip-fields .ensures) (c .before .skip-fields2 .ensures)) (c .skip-fields3 .ensures) in
+    let e : c .skip-fields3 .result ≡ fieldAt 4 l =
+    field-on 3 1 (c .before .before .before .before .args .line .now)
+    (field-on 1 2 (c .before .before .before .before .args .line .now) (c .before .before .skip-fields .ensures) (c .before .skip-fields2 .ensures)) (c .skip-fields3 .ensures) in
     omega (arith, field-within l 4 (c .before .before .before .before .pre) (lit< tt))
 
 skip-fields-requires-5 : tie.Need-skip-fields-requires-5
 skip-fields-requires-5 c κs =
     let l = c .before .before .before .before .before .args .line .now in
-    let e : c .skip-fields4 .result ≡ fieldAt 8 l = field-on 4 4 (c .before .before .before .before .before .args .line .now) (field-on 3 1 (c .before .before .before .before .before .args .line .now) (field-on 1 2 (c .before .before .before .before .before .args .line .now) (c .before .before .before .skip-fields .ensures) (c .before .before .skip-fields2 .ensures)) (c .before .skip-fields3 .ensures)) (c .skip-fields4 .ensures) in
+    let e : c .skip-fields4 .result ≡ fieldAt 8 l =
+    field-on 4 4 (c .before .before .before .before .before .args .line .now)
+    (field-on 3 1 (c .before .before .before .before .before .args .line .now)
+    (field-on 1 2 (c .before .before .before .before .before .args .line .now) (c .before .before .before .skip-fields .ensures) (c .before .before .skip-fields2 .ensures))
+    (c .before .skip-fields3 .ensures)) (c .skip-fields4 .ensures) in
     omega (arith, field-within l 8 (c .before .before .before .before .before .pre) (lit< tt))
 
 returns : tie.Need-returns

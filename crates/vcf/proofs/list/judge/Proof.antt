@@ -78,7 +78,9 @@ part-next-stage-start : tie.Need-part-next-stage-start Inv-loop μ-loop
 part-next-stage-start c = omega arith
 
 part-next-stage-end : tie.Need-part-next-stage-end Inv-loop μ-loop
-part-next-stage-end c = omega (arith, until-within LF (c .before .before .before .before .before .before .before .before .before .before .before .args .text .now) (c .before .before .before .before .before .loop .at))
+part-next-stage-end c =
+    let c8 = c .before .before .before .before .before .before .before .before in
+    omega (arith, until-within LF (c8 .before .before .before .args .text .now) (c .before .before .before .before .before .loop .at))
 
 next-stage-requires : tie.Need-next-stage-requires Inv-loop μ-loop
 next-stage-requires c κs =
@@ -98,7 +100,9 @@ add-n : tie.Need-add-n Inv-loop μ-loop
 add-n c = omega arith
 
 add-at : tie.Need-add-at Inv-loop μ-loop
-add-at c = omega (arith, until-within LF (c .before .before .before .before .before .before .before .before .before .before .before .before .before .args .text .now) (c .before .before .before .before .before .before .before .loop .at))
+add-at c =
+    let c8 = c .before .before .before .before .before .before .before .before in
+    omega (arith, until-within LF (c8 .before .before .before .before .before .args .text .now) (c .before .before .before .before .before .before .before .loop .at))
 
 loop-less : tie.Need-loop-less Inv-loop μ-loop
 loop-less c = omega arith

@@ -21,7 +21,8 @@ alts-wrong-requires : tie.Need-alts-wrong-requires
 alts-wrong-requires c κs = search needs
 
 returns : tie.Need-returns
-returns c = alt-read (c .before .before .before .before .args .line .now) (c .before .before .before .before .pre .1) (c .before .before .field-from .ensures) (c .before .field-from2 .ensures) (c .alts-wrong .ensures)
+returns c = alt-read (c .before .before .before .before .args .line .now) (c .before .before .before .before .pre .1) (c .before .before .field-from .ensures) (c .before .field-from2 .ensures)
+    (c .alts-wrong .ensures)
 
 pub alt-wrong-spec : {M : Type 1} → statement M
 alt-wrong-spec =

@@ -49,9 +49,10 @@ alt-wrong-requires c κs = search needs
 
 returns-4 : tie.Need-returns-4
 returns-4 c =
-    let l = c .before .before .before .before .before .before .before .before .before .before .before .before .before .args .line .now in
+    let c8 = c .before .before .before .before .before .before .before .before in
+    let l = c8 .before .before .before .before .before .args .line .now in
     sym
-    (first-row-not _ _ (sym (c .before .before .before .before .before .before .before .before .before .chrom-wrong .ensures) ∙ c .before .before .before .before .before .before .before .before .if1 .left)
+    (first-row-not _ _ (sym (c8 .before .chrom-wrong .ensures) ∙ c8 .if1 .left)
     ∙ first-row-not _ _ (ne-eqb _ _ (λ e. c .before .before .before .before .if2 .left (ap (λ (p : Pos). p .0) (c .before .before .before .before .before .before .pos-on .ensures) ∙ e)))
     ∙ first-row-not _ _ (sym (c .before .before .before .ref-wrong .ensures) ∙ c .before .before .if3 .left)
     ∙ first-row-holds _ _ (sym (c .before .alt-wrong .ensures) ∙ c .if4 .taken))
@@ -61,24 +62,28 @@ genotype-wrong-requires c κs = search needs
 
 returns-5 : tie.Need-returns-5
 returns-5 c =
-    let l = c .before .before .before .before .before .before .before .before .before .before .before .before .before .before .before .args .line .now in
+    let c8 = c .before .before .before .before .before .before .before .before in
+    let l = c8 .before .before .before .before .before .before .before .args .line .now in
     sym
-    (first-row-not _ _ (sym (c .before .before .before .before .before .before .before .before .before .before .before .chrom-wrong .ensures) ∙ c .before .before .before .before .before .before .before .before .before .before .if1 .left)
-    ∙ first-row-not _ _ (ne-eqb _ _ (λ e. c .before .before .before .before .before .before .if2 .left (ap (λ (p : Pos). p .0) (c .before .before .before .before .before .before .before .before .pos-on .ensures) ∙ e)))
+    (first-row-not _ _ (sym (c8 .before .before .before .chrom-wrong .ensures) ∙ c8 .before .before .if1 .left)
+    ∙ first-row-not _ _ (ne-eqb _ _ (λ e. c .before .before .before .before .before .before .if2 .left (ap (λ (p : Pos). p .0) (c8 .pos-on .ensures) ∙ e)))
     ∙ first-row-not _ _ (sym (c .before .before .before .before .before .ref-wrong .ensures) ∙ c .before .before .before .before .if3 .left)
     ∙ first-row-not _ _ (sym (c .before .before .before .alt-wrong .ensures) ∙ c .before .before .if4 .left)
     ∙ first-row-holds _ _ (sym (c .before .genotype-wrong .ensures) ∙ c .if5 .taken))
 
 has-no-alt-requires : tie.Need-has-no-alt-requires
 has-no-alt-requires c κs =
-    (c .before .before .before .before .before .before .before .before .before .before .before .before .before .before .before .pre, c .before .before .before .before .before .before .before .before .before .fields-of .ensures, sym (c .before .genotype-wrong .ensures) ∙ c .if5 .left)
+    let c8 = c .before .before .before .before .before .before .before .before in
+    (c8 .before .before .before .before .before .before .before .pre, c8 .before .fields-of .ensures, sym (c .before .genotype-wrong .ensures) ∙ c .if5 .left)
 
 returns-6 : tie.Need-returns-6
 returns-6 c =
-    let l = c .before .before .before .before .before .before .before .before .before .before .before .before .before .before .before .before .before .args .line .now in
+    let c8 = c .before .before .before .before .before .before .before .before in
+    let c16 = c8 .before .before .before .before .before .before .before .before in
+    let l = c16 .before .args .line .now in
     sym
-    (first-row-not _ _ (sym (c .before .before .before .before .before .before .before .before .before .before .before .before .before .chrom-wrong .ensures) ∙ c .before .before .before .before .before .before .before .before .before .before .before .before .if1 .left)
-    ∙ first-row-not _ _ (ne-eqb _ _ (λ e. c .before .before .before .before .before .before .before .before .if2 .left (ap (λ (p : Pos). p .0) (c .before .before .before .before .before .before .before .before .before .before .pos-on .ensures) ∙ e)))
+    (first-row-not _ _ (sym (c8 .before .before .before .before .before .chrom-wrong .ensures) ∙ c8 .before .before .before .before .if1 .left)
+    ∙ first-row-not _ _ (ne-eqb _ _ (λ e. c8 .if2 .left (ap (λ (p : Pos). p .0) (c8 .before .before .pos-on .ensures) ∙ e)))
     ∙ first-row-not _ _ (sym (c .before .before .before .before .before .before .before .ref-wrong .ensures) ∙ c .before .before .before .before .before .before .if3 .left)
     ∙ first-row-not _ _ (sym (c .before .before .before .before .before .alt-wrong .ensures) ∙ c .before .before .before .before .if4 .left)
     ∙ first-row-not _ _ (sym (c .before .before .before .genotype-wrong .ensures) ∙ c .before .before .if5 .left)
@@ -89,46 +94,58 @@ is-off-reference-requires c κs = search needs
 
 returns-7 : tie.Need-returns-7
 returns-7 c =
-    let l = c .before .before .before .before .before .before .before .before .before .before .before .before .before .before .before .before .before .before .before .args .line .now in
-    let reference = c .before .before .before .before .before .before .before .before .before .before .before .before .before .before .before .before .before .before .before .args .reference .now in
+    let c8 = c .before .before .before .before .before .before .before .before in
+    let c16 = c8 .before .before .before .before .before .before .before .before in
+    let l = c16 .before .before .before .args .line .now in
+    let reference = c16 .before .before .before .args .reference .now in
     sym
-    (first-row-not _ _ (sym (c .before .before .before .before .before .before .before .before .before .before .before .before .before .before .before .chrom-wrong .ensures) ∙ c .before .before .before .before .before .before .before .before .before .before .before .before .before .before .if1 .left)
-    ∙ first-row-not _ _ (ne-eqb _ _ (λ e. c .before .before .before .before .before .before .before .before .before .before .if2 .left (ap (λ (p : Pos). p .0) (c .before .before .before .before .before .before .before .before .before .before .before .before .pos-on .ensures) ∙ e)))
-    ∙ first-row-not _ _ (sym (c .before .before .before .before .before .before .before .before .before .ref-wrong .ensures) ∙ c .before .before .before .before .before .before .before .before .if3 .left)
+    (first-row-not _ _ (sym (c8 .before .before .before .before .before .before .before .chrom-wrong .ensures) ∙ c8 .before .before .before .before .before .before .if1 .left)
+    ∙ first-row-not _ _ (ne-eqb _ _ (λ e. c8 .before .before .if2 .left (ap (λ (p : Pos). p .0) (c8 .before .before .before .before .pos-on .ensures) ∙ e)))
+    ∙ first-row-not _ _ (sym (c8 .before .ref-wrong .ensures) ∙ c8 .if3 .left)
     ∙ first-row-not _ _ (sym (c .before .before .before .before .before .before .before .alt-wrong .ensures) ∙ c .before .before .before .before .before .before .if4 .left)
     ∙ first-row-not _ _ (sym (c .before .before .before .before .before .genotype-wrong .ensures) ∙ c .before .before .before .before .if5 .left)
     ∙ first-row-not _ _ (sym (c .before .before .before .has-no-alt .ensures) ∙ c .before .before .if6 .left)
-    ∙ first-row-holds _ _ (sym (c .before .is-off-reference .ensures ∙ ap (λ (p : Pos). offReference? reference p (field 3 l)) (c .before .before .before .before .before .before .before .before .before .before .before .before .pos-on .ensures)) ∙ c .if7 .taken))
+    ∙ first-row-holds _ _ (sym (c .before .is-off-reference .ensures ∙ ap (λ (p : Pos). offReference? reference p (field 3 l)) (c8 .before .before .before .before .pos-on .ensures)) ∙ c .if7 .taken))
 
 returns-8 : tie.Need-returns-8
 returns-8 c =
-    let l = c .before .before .before .before .before .before .before .before .before .before .before .before .before .before .before .before .before .before .before .before .before .before .args .line .now in
-    let reference = c .before .before .before .before .before .before .before .before .before .before .before .before .before .before .before .before .before .before .before .before .before .before .args .reference .now in
-    let last = c .before .before .before .before .before .before .before .before .before .before .before .before .before .before .before .before .before .before .before .before .before .before .args .last in
+    let c8 = c .before .before .before .before .before .before .before .before in
+    let c16 = c8 .before .before .before .before .before .before .before .before in
+    let l = c16 .before .before .before .before .before .before .args .line .now in
+    let reference = c16 .before .before .before .before .before .before .args .reference .now in
+    let last = c16 .before .before .before .before .before .before .args .last in
     sym
-    (first-row-not _ _ (sym (c .before .before .before .before .before .before .before .before .before .before .before .before .before .before .before .before .before .before .chrom-wrong .ensures) ∙ c .before .before .before .before .before .before .before .before .before .before .before .before .before .before .before .before .before .if1 .left)
-    ∙ first-row-not _ _ (ne-eqb _ _ (λ e. c .before .before .before .before .before .before .before .before .before .before .before .before .before .if2 .left (ap (λ (p : Pos). p .0) (c .before .before .before .before .before .before .before .before .before .before .before .before .before .before .before .pos-on .ensures) ∙ e)))
-    ∙ first-row-not _ _ (sym (c .before .before .before .before .before .before .before .before .before .before .before .before .ref-wrong .ensures) ∙ c .before .before .before .before .before .before .before .before .before .before .before .if3 .left)
-    ∙ first-row-not _ _ (sym (c .before .before .before .before .before .before .before .before .before .before .alt-wrong .ensures) ∙ c .before .before .before .before .before .before .before .before .before .if4 .left)
-    ∙ first-row-not _ _ (sym (c .before .before .before .before .before .before .before .before .genotype-wrong .ensures) ∙ c .before .before .before .before .before .before .before .if5 .left)
+    (first-row-not _ _ (sym (c16 .before .before .chrom-wrong .ensures) ∙ c16 .before .if1 .left)
+    ∙ first-row-not _ _ (ne-eqb _ _
+    (λ e. c8 .before .before .before .before .before .if2 .left (ap (λ (p : Pos). p .0) (c8 .before .before .before .before .before .before .before .pos-on .ensures) ∙ e)))
+    ∙ first-row-not _ _ (sym (c8 .before .before .before .before .ref-wrong .ensures) ∙ c8 .before .before .before .if3 .left)
+    ∙ first-row-not _ _ (sym (c8 .before .before .alt-wrong .ensures) ∙ c8 .before .if4 .left)
+    ∙ first-row-not _ _ (sym (c8 .genotype-wrong .ensures) ∙ c .before .before .before .before .before .before .before .if5 .left)
     ∙ first-row-not _ _ (sym (c .before .before .before .before .before .before .has-no-alt .ensures) ∙ c .before .before .before .before .before .if6 .left)
-    ∙ first-row-not _ _ (sym (c .before .before .before .before .is-off-reference .ensures ∙ ap (λ (p : Pos). offReference? reference p (field 3 l)) (c .before .before .before .before .before .before .before .before .before .before .before .before .before .before .before .pos-on .ensures)) ∙ c .before .before .before .if7 .left)
-    ∙ first-row-holds _ _ (ap (λ (p : Pos). ltb (p .0) (last .0)) (sym (c .before .before .before .before .before .before .before .before .before .before .before .before .before .before .before .pos-on .ensures)) ∙ lt-ltb _ _ (c .if8 .taken)))
+    ∙ first-row-not _ _ (sym
+    (c .before .before .before .before .is-off-reference .ensures
+    ∙ ap (λ (p : Pos). offReference? reference p (field 3 l)) (c8 .before .before .before .before .before .before .before .pos-on .ensures)) ∙ c .before .before .before .if7 .left)
+    ∙ first-row-holds _ _ (ap (λ (p : Pos). ltb (p .0) (last .0)) (sym (c8 .before .before .before .before .before .before .before .pos-on .ensures)) ∙ lt-ltb _ _ (c .if8 .taken)))
 
 returns-9 : tie.Need-returns-9
 returns-9 c =
-    let l = c .before .before .before .before .before .before .before .before .before .before .before .before .before .before .before .before .before .before .before .before .before .before .args .line .now in
-    let reference = c .before .before .before .before .before .before .before .before .before .before .before .before .before .before .before .before .before .before .before .before .before .before .args .reference .now in
-    let last = c .before .before .before .before .before .before .before .before .before .before .before .before .before .before .before .before .before .before .before .before .before .before .args .last in
+    let c8 = c .before .before .before .before .before .before .before .before in
+    let c16 = c8 .before .before .before .before .before .before .before .before in
+    let l = c16 .before .before .before .before .before .before .args .line .now in
+    let reference = c16 .before .before .before .before .before .before .args .reference .now in
+    let last = c16 .before .before .before .before .before .before .args .last in
     sym
-    (first-row-not _ _ (sym (c .before .before .before .before .before .before .before .before .before .before .before .before .before .before .before .before .before .before .chrom-wrong .ensures) ∙ c .before .before .before .before .before .before .before .before .before .before .before .before .before .before .before .before .before .if1 .left)
-    ∙ first-row-not _ _ (ne-eqb _ _ (λ e. c .before .before .before .before .before .before .before .before .before .before .before .before .before .if2 .left (ap (λ (p : Pos). p .0) (c .before .before .before .before .before .before .before .before .before .before .before .before .before .before .before .pos-on .ensures) ∙ e)))
-    ∙ first-row-not _ _ (sym (c .before .before .before .before .before .before .before .before .before .before .before .before .ref-wrong .ensures) ∙ c .before .before .before .before .before .before .before .before .before .before .before .if3 .left)
-    ∙ first-row-not _ _ (sym (c .before .before .before .before .before .before .before .before .before .before .alt-wrong .ensures) ∙ c .before .before .before .before .before .before .before .before .before .if4 .left)
-    ∙ first-row-not _ _ (sym (c .before .before .before .before .before .before .before .before .genotype-wrong .ensures) ∙ c .before .before .before .before .before .before .before .if5 .left)
+    (first-row-not _ _ (sym (c16 .before .before .chrom-wrong .ensures) ∙ c16 .before .if1 .left)
+    ∙ first-row-not _ _ (ne-eqb _ _
+    (λ e. c8 .before .before .before .before .before .if2 .left (ap (λ (p : Pos). p .0) (c8 .before .before .before .before .before .before .before .pos-on .ensures) ∙ e)))
+    ∙ first-row-not _ _ (sym (c8 .before .before .before .before .ref-wrong .ensures) ∙ c8 .before .before .before .if3 .left)
+    ∙ first-row-not _ _ (sym (c8 .before .before .alt-wrong .ensures) ∙ c8 .before .if4 .left)
+    ∙ first-row-not _ _ (sym (c8 .genotype-wrong .ensures) ∙ c .before .before .before .before .before .before .before .if5 .left)
     ∙ first-row-not _ _ (sym (c .before .before .before .before .before .before .has-no-alt .ensures) ∙ c .before .before .before .before .before .if6 .left)
-    ∙ first-row-not _ _ (sym (c .before .before .before .before .is-off-reference .ensures ∙ ap (λ (p : Pos). offReference? reference p (field 3 l)) (c .before .before .before .before .before .before .before .before .before .before .before .before .before .before .before .pos-on .ensures)) ∙ c .before .before .before .if7 .left)
-    ∙ first-row-not _ _ (ap (λ (p : Pos). ltb (p .0) (last .0)) (sym (c .before .before .before .before .before .before .before .before .before .before .before .before .before .before .before .pos-on .ensures)) ∙ le-ltb _ _ (c .if8 .left))
+    ∙ first-row-not _ _ (sym
+    (c .before .before .before .before .is-off-reference .ensures
+    ∙ ap (λ (p : Pos). offReference? reference p (field 3 l)) (c8 .before .before .before .before .before .before .before .pos-on .ensures)) ∙ c .before .before .before .if7 .left)
+    ∙ first-row-not _ _ (ap (λ (p : Pos). ltb (p .0) (last .0)) (sym (c8 .before .before .before .before .before .before .before .pos-on .ensures)) ∙ le-ltb _ _ (c .if8 .left))
     ∙ first-row-none [] tt)
 
 pub field-fault-spec : {M : Type 1} → statement M

@@ -32,7 +32,12 @@ alt-count-requires c κs = search needs
 field-from-requires-3 : tie.Need-field-from-requires-3
 field-from-requires-3 c κs =
     let l = c .before .before .before .before .before .before .args .line .now in
-    omega (arith, read l (c .before .before .before .before .before .before .args .fields) (c .before .before .before .before .before .before .pre .1), field-within l 9 (c .before .before .before .before .before .before .pre .0) (lit< tt))
+    omega (
+      arith,
+      read l (c .before .before .before .before .before .before .args .fields) (c .before .before .before .before .before .before .pre .1),
+      field-within l 9
+          (c .before .before .before .before .before .before .pre .0) (lit< tt),
+    )
 
 genotype-of-requires : tie.Need-genotype-of-requires
 genotype-of-requires c κs = search needs
@@ -42,10 +47,12 @@ copies-wrong-requires c κs = search needs
 
 returns-2 : tie.Need-returns-2
 returns-2 c =
-    let l = c .before .before .before .before .before .before .before .before .before .args .line .now in
-    let p = c .before .before .before .before .before .before .before .before .before .pre .1 in
+    let c8 = c .before .before .before .before .before .before .before .before in
+    let l = c8 .before .args .line .now in
+    let p = c8 .before .pre .1 in
     genotype-read l
-    (sym (format-read l p (c .before .before .before .before .before .before .before .field-from .ensures) (c .before .before .before .before .before .before .format-wrong .ensures)) ∙ c .before .before .before .before .before .if1 .left)
+    (sym (format-read l p (c .before .before .before .before .before .before .before .field-from .ensures) (c .before .before .before .before .before .before .format-wrong .ensures))
+    ∙ c .before .before .before .before .before .if1 .left)
     (alts-read l p (c .before .before .before .before .field-from2 .ensures) (c .before .before .before .alt-count .ensures))
     (sample-read l p (c .before .before .field-from3 .ensures) (c .before .genotype-of .ensures))
     (c .copies-wrong .ensures)

@@ -16,15 +16,23 @@ genotype-of-requires : tie.Need-genotype-of-requires
 genotype-of-requires c κs = search needs
 
 shared-slice-read-result : tie.Need-shared-slice-read-result
-shared-slice-read-result c = let w = copies-read (c .before .before .before .before .args .line .now) (c .before .before .before .before .pre .2) (sample-read (c .before .before .before .before .args .line .now) (c .before .before .before .before .pre .1) (c .before .before .field-from .ensures) (c .before .genotype-of .ensures)) in rw (w .long) (lit< tt)
+shared-slice-read-result c = let w =
+    copies-read (c .before .before .before .before .args .line .now) (c .before .before .before .before .pre .2)
+    (sample-read (c .before .before .before .before .args .line .now) (c .before .before .before .before .pre .1) (c .before .before .field-from .ensures) (c .before .genotype-of .ensures)) in
+    rw (w .long) (lit< tt)
 
 shared-slice-read-result-2 : tie.Need-shared-slice-read-result-2
-shared-slice-read-result-2 c = let w = copies-read (c .before .before .before .before .before .args .line .now) (c .before .before .before .before .before .pre .2) (sample-read (c .before .before .before .before .before .args .line .now) (c .before .before .before .before .before .pre .1) (c .before .before .before .field-from .ensures) (c .before .before .genotype-of .ensures)) in rw (w .long) (lit< tt)
+shared-slice-read-result-2 c = let w =
+    copies-read (c .before .before .before .before .before .args .line .now) (c .before .before .before .before .before .pre .2)
+    (sample-read (c .before .before .before .before .before .args .line .now) (c .before .before .before .before .before .pre .1) (c .before .before .before .field-from .ensures)
+    (c .before .before .genotype-of .ensures)) in rw (w .long) (lit< tt)
 
 returns : tie.Need-returns
 returns c =
-    let e = sample-read (c .before .before .before .before .before .args .line .now) (c .before .before .before .before .before .pre .1) (c .before .before .before .field-from .ensures) (c .before .before .genotype-of .ensures) in
-    no-alt-read (c .before .before .before .before .before .args .line .now) e (copies-read (c .before .before .before .before .before .args .line .now) (c .before .before .before .before .before .pre .2) e)
+    let e = sample-read (c .before .before .before .before .before .args .line .now) (c .before .before .before .before .before .pre .1) (c .before .before .before .field-from .ensures)
+    (c .before .before .genotype-of .ensures) in
+    no-alt-read (c .before .before .before .before .before .args .line .now) e
+    (copies-read (c .before .before .before .before .before .args .line .now) (c .before .before .before .before .before .pre .2) e)
 
 pub has-no-alt-spec : {M : Type 1} → statement M
 has-no-alt-spec =

@@ -38,7 +38,9 @@ returns-2 : tie.Need-returns-2
 returns-2 c =
     let r = c .before .before .before .before .before .before .args .reference .now in
     let pos = c .before .before .before .before .before .before .args .pos in
-    let e : c .before .before .before .field-from .result .now ≡ field 3 (c .before .before .before .before .before .before .args .line .now) = reference-read (c .before .before .before .before .before .before .args .line .now) (c .before .before .before .before .before .before .pre .1) (c .before .before .before .field-from .ensures) in
+    let e : c .before .before .before .field-from .result .now ≡ field 3 (c .before .before .before .before .before .before .args .line .now) =
+    reference-read (c .before .before .before .before .before .before .args .line .now) (c .before .before .before .before .before .before .pre .1)
+    (c .before .before .before .field-from .ensures) in
     let w = ap (λ (p : Place). p .0) (c .before .before .place-of .ensures) in
     sym (off-past r pos (field 3 (c .before .before .before .before .before .before .args .line .now)) (rw (← e) (omega arith)))
 
@@ -59,10 +61,11 @@ same-bases-requires c κs = search needs
 
 returns-3 : tie.Need-returns-3
 returns-3 c =
-    let l = c .before .before .before .before .before .before .before .before .args .line .now in
-    let r = c .before .before .before .before .before .before .before .before .args .reference .now in
-    let pos = c .before .before .before .before .before .before .before .before .args .pos in
-    let e : c .before .before .before .before .before .field-from .result .now ≡ field 3 l = reference-read l (c .before .before .before .before .before .before .before .before .pre .1) (c .before .before .before .before .before .field-from .ensures) in
+    let c8 = c .before .before .before .before .before .before .before .before in
+    let l = c8 .args .line .now in
+    let r = c8 .args .reference .now in
+    let pos = c8 .args .pos in
+    let e : c .before .before .before .before .before .field-from .result .now ≡ field 3 l = reference-read l (c8 .pre .1) (c .before .before .before .before .before .field-from .ensures) in
     let b = c .before .before .before .before .before .field-from .result .now in
     let from = c .before .before .before .before .place-of .result .0 in
     let w : from ≡ placeOf pos .0 = ap (λ (p : Place). p .0) (c .before .before .before .before .place-of .ensures) in
