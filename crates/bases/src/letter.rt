@@ -1,4 +1,5 @@
-// Which letter a byte is. Nobody else looks at the bytes of a reference or of an allele.
+// Which letter a byte is, in one place. What else looks at the bytes of a reference or of an allele compares them as they are first
+// (same.rt) or looks for a byte that is no letter, as the comma of ALT.
 ghost use mathlib.Core.Path.{_≡_};
 ghost use Rattle.bases.specs.Letter.{letterOf, allLetters?};
 

@@ -1,4 +1,4 @@
-// Equal bases: the only code that compares bytes of a reference or of an allele.
+// Equal bases: the only code that tells whether two bytes of a reference or of an allele are one base.
 ghost use mathlib.Core.Path.{_≡_};
 ghost use lib.Dec.{eqb};
 ghost use Rattle.bases.specs.Letter.{letterOf, basesOf};
