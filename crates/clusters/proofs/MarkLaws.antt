@@ -71,7 +71,7 @@ module _ (reference : List ℕ) (c : List Variant) where
 
   pub marks-many : most < length c
       → (markedOf reference c ≡ record { found = true; decided = false; score = 0 }) × (marksOf reference c ≡ replicate (length c) QUESTION)
-  marks-many h = rw (lt-leb (length c) most h) (refl, refl)
+  marks-many h = let e : decided? c ≡ false = lt-leb (length c) most h in rw e (refl, refl)
 
   -- the choices stand first in their array
   choices-first : (φ : List Choice) (n : ℕ) → length φ ≡ n → take n (arrayOf φ) ≡ map byteOf φ

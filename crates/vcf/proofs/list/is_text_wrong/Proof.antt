@@ -15,7 +15,9 @@ returns c =
     simp (le-ltb longestText (length t) (omega arith), List·getD-eq-default t 0 {n = length t - 1} (omega arith))
 
 returns-2 : tie.Need-returns-2
-returns-2 c = simp (lt-ltb _ _ (c .if2 .taken))
+returns-2 c =
+    let t = c .before .before .args .text .now in
+    simp (lt-ltb longestText (length t) (omega arith))
 
 sub-result : tie.Need-sub-result
 sub-result c = search needs
@@ -24,7 +26,9 @@ shared-slice-read-result : tie.Need-shared-slice-read-result
 shared-slice-read-result c = search needs
 
 returns-3 : tie.Need-returns-3
-returns-3 c = simp (le-ltb _ _ (c .before .if2 .left))
+returns-3 c =
+    let t = c .before .before .before .args .text .now in
+    simp (le-ltb longestText (length t) (omega arith))
 
 pub is-text-wrong-spec : {M : Type 1} → statement M
 is-text-wrong-spec =
