@@ -1,5 +1,5 @@
 -- `card::count::count` meets its contract: accepted lists have at most 1,024 entries, so no count is above that. Assumes nothing.
-use mathlib.Core.Path.{sym, ap, _∙_}
+use mathlib.Core.Path.{_≡_, sym, ap, _∙_}
 use borrow.Author.Needs.{needs}
 use lib.Dec.{ltb}
 use lib.ListN.{length}
@@ -8,6 +8,8 @@ use Rattle.clusters.specs.Merged.{mergedItems}
 use Rattle.clusters.proofs.CountLaws.{counts-few}
 use Rattle.clusters.proofs.HeadsLaws.{ready-readable}
 use Rattle.card.specs.declared.answer.Answer.{Answer}
+use Rattle.card.specs.Answer.{refusedAnswer}
+use Rattle.card.specs.Count.{countRefusal}
 use Rattle.card.specs.Refusal.{leastRoom}
 use Rattle.card.proofs.CountLaws.{count-refused, count-given, count-room}
 use Rattle.card.proofs.ReadyLaws.{lists-answerable}
@@ -28,7 +30,8 @@ returns c =
     let t1 = a .first .now in
     let t2 = a .second .now in
     let m = a .marks .now in
-    let e = c .before .before .before .lists-refused .ensures in
+    let e : c .before .before .before .lists-refused .result ≡ refusedAnswer (countRefusal r name t1 t2 m) =
+    c .before .before .before .lists-refused .ensures in
     c .counted-of .ensures ∙ rw e (sym (count-refused r name t1 t2 m (rw (← ap (λ (x : Answer). x .number) e) (c .before .if1 .taken))))
 
 count-lists-requires : tie.Need-count-lists-requires
