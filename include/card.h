@@ -8,7 +8,7 @@
  *
  * What the caller keeps:
  *
- *   - A buffer is lent as a pointer and a count of elements: bytes, or the clusters of a plan. The pointer is valid and aligned
+ *   - A buffer is lent as a pointer and a count of elements: bytes, the clusters of a plan, or entries. The pointer is valid and aligned
  *     for that many elements and is not NULL, also where the count is 0: then any other aligned pointer will do. Texts and
  *     names need no NUL behind them, and a NUL among their bytes is a byte like any other.
  *   - Through a pointer to const the card only reads. Such buffers may overlap one another.
@@ -29,6 +29,22 @@ extern "C" {
 #endif
 
 /*
+ * The version of the calls: 65,536 times the major part, plus the minor part. The major part is raised whenever a call or a
+ * struct changes for its callers, the minor part whenever something is added.
+ *
+ * CARD_VERSION is what this header describes, card_version() what the library linked does. They fit where the major parts are
+ * equal and the library's minor part is not below the header's, which is what CARD_FITS asks:
+ *
+ *     if (!CARD_FITS(card_version())) fail("card.h and libcard_abi.a are of different versions");
+ */
+#define CARD_VERSION_MAJOR 1u
+#define CARD_VERSION_MINOR 0u
+#define CARD_VERSION (CARD_VERSION_MAJOR << 16 | CARD_VERSION_MINOR)
+#define CARD_FITS(version) ((version) >> 16 == CARD_VERSION_MAJOR && ((version)&0xffffu) >= CARD_VERSION_MINOR)
+
+uint32_t card_version(void);
+
+/*
  * Why a call is refused. The first that holds is told, in this order: 1; 2; list 1; list 2; 17; 16; 18, each where the call
  * has that input. Within a list: 3, then the lines from the top. On a line: 4, 5, 15, then 6 to 14 as numbered. A number is
  * told only where what it says is so. Numbers from 30 on are kept for calls to come.
@@ -36,8 +52,8 @@ extern "C" {
 enum card_refusal {
     CARD_ANSWERED = 0,            /* the call is not refused */
     CARD_WRONG_REFERENCE = 1,     /* the reference is not 1 to 65,535 bytes, each A, C, G, T or N */
-    CARD_SMALL_ROOM = 2,          /* lent room too small: marks below 1,024 bytes, plan below 1,024 clusters, normal text
-                                     below the length of the given text */
+    CARD_SMALL_ROOM = 2,          /* lent room too small: marks below 1,024 bytes, plan below 1,024 clusters, entries
+                                     below 1,024, normal text below the length of the given text */
     CARD_WRONG_TEXT = 3,          /* list text over 65,536 bytes, or not ending in LF (so also empty) */
     CARD_LONG_LINE = 4,           /* a line over 1,024 bytes, its LF not counted */
     CARD_WRONG_HEADER = 5,        /* line 1 is not exactly ##fileformat=VCFv4.2; the first line that does not begin with ## is
@@ -61,6 +77,62 @@ enum card_refusal {
                                      are clusters, are judged */
     CARD_NO_ALLELE = 18           /* no such entry in the list, or an allele number above its number of ALTs */
 };
+
+/*
+ * What a refusal's number says, in the words of docs/refusals.tsv, which also says what to do: for people, not for programs.
+ * The empty string where there is no such refusal, as for CARD_ANSWERED; never NULL. (30 and 31 are those of a lot's report.)
+ */
+static inline const char *card_refusal_text(uint32_t number)
+{
+    switch (number) {
+    case 1:
+        return "the reference is not 1 to 65,535 bytes, each A, C, G, T or N; a reference file has one LF behind them";
+    case 2:
+        return "lent room is too small: plan, marks or entries below 1,024, or the room for a normal text below "
+               "the length of the text given";
+    case 3:
+        return "the list's text is empty, over 65,536 bytes, or does not end in LF";
+    case 4:
+        return "a line is over 1,024 bytes, its LF not counted";
+    case 5:
+        return "the header is wrong: line 1 is not ##fileformat=VCFv4.2, the column line of ten fields is "
+               "missing or wrong, or a line behind it begins with #";
+    case 6:
+        return "the record does not have ten TAB-separated fields, or one is empty";
+    case 7:
+        return "CHROM is not the name given";
+    case 8:
+        return "POS is not 1 to 65,535, decimal, without leading zero";
+    case 9:
+        return "REF is not 1 to 64 of A, C, G, T, N";
+    case 10:
+        return "ALT is not one allele, or two with a comma between, each 1 to 64 of A, C, G, T, N, different "
+               "from REF and from each other";
+    case 11:
+        return "FORMAT does not begin with GT, or the genotype is not two digits, each at most the number of "
+               "ALTs, with / or | between";
+    case 12:
+        return "the genotype is 0/0";
+    case 13:
+        return "REF runs past the reference or differs from it";
+    case 14:
+        return "POS is below that of the record before";
+    case 15:
+        return "there is a 513th record";
+    case 16:
+        return "the cluster's number is not below the number of clusters";
+    case 17:
+        return "the plan given is not the plan of these lists";
+    case 18:
+        return "the list has no such entry, or the entry has no such allele";
+    case 30:
+        return "there is no run, or there are more than 256";
+    case 31:
+        return "a run counts more than 512 entries in a list";
+    default:
+        return "";
+    }
+}
 
 /*
  * What a call answers.
@@ -115,12 +187,12 @@ typedef struct {
 } card_cluster;
 
 /*
- * The room that every plan and every buffer of marks has to have: so many clusters, so many bytes. Two accepted lists have at
- * most as many entries, and so at most as many clusters: no larger room is ever needed.
+ * The room that every plan, every buffer of marks and every buffer of entries has to have: so many clusters, bytes, entries.
+ * Two accepted lists have at most as many entries, and so at most as many clusters: no larger room is ever needed.
  */
 enum { CARD_LEAST = 1024 };
 
-/* The value that says that a cluster is undecided. */
+/* The value that says that a cluster is undecided. Of card_mark only: card_mark_all leaves such clusters out of its score. */
 #define CARD_UNDECIDED UINT32_MAX
 
 /*
@@ -138,14 +210,59 @@ card_answer card_plan(const uint8_t *reference, size_t reference_count, const ui
                       card_cluster *plan, size_t plan_count);
 
 /*
+ * What card_mark_all answers. Refused: number, list and line as in card_answer, and two zeros. Answered: number, list and line
+ * are 0, clusters is the number of clusters, and score the sum of the scores of those that are decided.
+ */
+typedef struct {
+    uint32_t number, list, line, clusters, score;
+} card_all_marked;
+
+/*
+ * Marks a whole pair of lists: what card_plan and then card_mark of each cluster leave, for the cost of one judging.
+ *
+ * reference, name, first, second, plan   as for card_plan
+ * marks                                  as for card_mark
+ *
+ * Answered: the plan's first records, one a cluster, and the first marks, one an entry, are written; no other record or byte
+ * changes.
+ * Refused: 1, 2, 3 to 15. No record and no byte changes.
+ */
+card_all_marked card_mark_all(const uint8_t *reference, size_t reference_count, const uint8_t *name, size_t name_count,
+                              const uint8_t *first, size_t first_count, const uint8_t *second, size_t second_count,
+                              card_cluster *plan, size_t plan_count, uint8_t *marks, size_t marks_count);
+
+/*
+ * Where an entry stands: its list, 1 or 2; its number in that list, from 0; the line of its record in that list's text, from 1;
+ * and the number of its cluster, from 0.
+ */
+typedef struct {
+    uint32_t list, entry, line, cluster;
+} card_entry;
+
+/*
+ * Says which entry each mark belongs to: entry e of what is written is that of mark e.
+ *
+ * reference, name, first, second   as for card_plan
+ * entries    room for CARD_LEAST entries or more; entries_count counts entries, not bytes
+ *
+ * Answered: value is the number of entries of both lists. So many records are written, one an entry, in merged order: POS, then
+ * list 1 before list 2, then order in the list; no other record changes.
+ * Refused: 1, 2, 3 to 15. No record changes.
+ */
+card_answer card_entries(const uint8_t *reference, size_t reference_count, const uint8_t *name, size_t name_count,
+                         const uint8_t *first, size_t first_count, const uint8_t *second, size_t second_count,
+                         card_entry *entries, size_t entries_count);
+
+/*
  * Marks the entries of one cluster.
  *
  * reference, name, first, second   as for card_plan
  * plan       the plan of these lists, as card_plan writes it, in a buffer of CARD_LEAST clusters or more; what stands behind
  *            the plan's own may be anything
+ *            (the plan is judged by its numbers alone: another pair's plan with the same records is accepted, and is as good)
  * cluster    the cluster's number, from 0
  * marks      room for CARD_LEAST marks or more, one byte an entry, in merged order: POS, then list 1 before list 2, then order
- *            in the list
+ *            in the list (card_entries writes that order out)
  *
  * Answered: the marks of the cluster's entries are written, and no other byte of marks changes. An entry that matches is '+'
  * where it is taken as written, and '-' where its two copies are exchanged. One that is left out is '0'. value is the cluster's
