@@ -5,9 +5,10 @@
  *
  * One line a matched entry, in merged order: its list, 1 or 2, a TAB, and its record as it stands in the file. The last line
  * counts the others: `unmatched` and `undecided`, each with its number behind it. Where the card refuses the input, the only
- * line is `refused`, number, list and line (include/card.h says what they mean). Fields are TAB-separated.
+ * line is `refused`, number, list and line, and standard error says what is wrong there. Fields are TAB-separated.
  *
- * Exit status: 0; 1 where the card refuses the input; 2 where a file cannot be read or the lines cannot be written.
+ * Exit status: 0; 1 where the card refuses the input; 2 where a file cannot be read, the lines cannot be written, or the library
+ * linked is of another version than card.h.
  *
  * To build it on x86-64 Linux, in the top folder:
  *
@@ -15,7 +16,6 @@
  *     cc -O2 -Iinclude examples/c/matched.c target/staticlib/libcard_abi.a -o matched
  */
 #include <stdio.h>
-#include <stdlib.h>
 #include <string.h>
 #include <unistd.h>
 
@@ -36,12 +36,6 @@ static const uint8_t name[] = {'c', 'h', 'r', '1'};
 struct part {
     const uint8_t *bytes;
     size_t count;
-};
-
-/* An entry: its list, 1 or 2, and its record without the LF. */
-struct entry {
-    int list;
-    struct part record;
 };
 
 /* Reads a file into the room. Where that fails it says why, and answers 0. */
@@ -72,64 +66,18 @@ static struct part bases_of(struct part file)
     return bases;
 }
 
-/*
- * The functions from here to `merge` read texts that the card has accepted. So every line ends in LF, every line that does
- * not begin with # is a record of ten fields, and POS, the second of them, is a number and never falls.
- */
-
-/* Takes the first line off a text, and returns it without its LF. */
-static struct part take_line(struct part *text)
+/* A line of a text that the card has accepted, without its LF: lines are numbered from 1, and each ends in LF. */
+static struct part line_of(struct part text, uint32_t number)
 {
-    const uint8_t *lf = memchr(text->bytes, '\n', text->count);
-    struct part line = {text->bytes, (size_t)(lf - text->bytes)};
-    text->bytes += line.count + 1;
-    text->count -= line.count + 1;
-    return line;
+    const uint8_t *line = text.bytes, *end = text.bytes + text.count, *lf;
+    while (lf = memchr(line, '\n', (size_t)(end - line)), --number > 0)
+        line = lf + 1;
+    struct part found = {line, (size_t)(lf - line)};
+    return found;
 }
 
-/* A text from its first record on. */
-static struct part records_of(struct part text)
-{
-    while (text.count > 0 && text.bytes[0] == '#')
-        take_line(&text);
-    return text;
-}
-
-/* POS of the first record. The TAB behind it ends the number. */
-static unsigned long first_pos(struct part records)
-{
-    const uint8_t *tab = memchr(records.bytes, '\t', records.count);
-    return strtoul((const char *)tab + 1, NULL, 10);
-}
-
-/* Whether the next entry in merged order is of list 1: its POS is not above that of list 2, or list 2 has no more. */
-static int is_first_next(struct part first, struct part second)
-{
-    if (first.count == 0 || second.count == 0)
-        return second.count == 0;
-    return first_pos(first) <= first_pos(second);
-}
-
-/*
- * The entries of both lists in merged order: POS, then list 1 before list 2, then order in the list. This is the order of the
- * marks: mark i is of entry i. Returns how many there are, at most CARD_LEAST.
- */
-static size_t merge(struct part first, struct part second, struct entry entries[CARD_LEAST])
-{
-    size_t count = 0;
-    first = records_of(first);
-    second = records_of(second);
-    while (first.count > 0 || second.count > 0) {
-        int is_first = is_first_next(first, second);
-        entries[count].list = is_first ? 1 : 2;
-        entries[count].record = take_line(is_first ? &first : &second);
-        count++;
-    }
-    return count;
-}
-
-/* Prints the entries that are marked as matched, and counts the others. */
-static void print_matched(const struct entry *entries, const uint8_t *marks, size_t count)
+/* Prints the entries that are marked as matched, and counts the others. Mark i is of entry i. */
+static void print_matched(const card_entry *entries, const uint8_t *marks, size_t count, struct part first, struct part second)
 {
     size_t unmatched = 0, undecided = 0;
     for (size_t i = 0; i < count; i++) {
@@ -138,12 +86,25 @@ static void print_matched(const struct entry *entries, const uint8_t *marks, siz
         } else if (marks[i] == '?') {
             undecided++;
         } else { /* '+', or '-' where it matches with its two copies exchanged */
-            printf("%d\t", entries[i].list);
-            fwrite(entries[i].record.bytes, 1, entries[i].record.count, stdout); /* a record may hold any byte, also NUL */
+            struct part record = line_of(entries[i].list == 1 ? first : second, entries[i].line);
+            printf("%u\t", (unsigned)entries[i].list);
+            fwrite(record.bytes, 1, record.count, stdout); /* a record may hold any byte, also NUL */
             putchar('\n');
         }
     }
     printf("unmatched\t%zu\tundecided\t%zu\n", unmatched, undecided);
+}
+
+/* Prints a refusal, and says on standard error what is wrong. */
+static void print_refused(unsigned number, unsigned list, unsigned line)
+{
+    printf("refused\t%u\t%u\t%u\n", number, list, line);
+    fprintf(stderr, "matched: ");
+    if (list > 0)
+        fprintf(stderr, "list %u: ", list);
+    if (line > 0)
+        fprintf(stderr, "line %u: ", line);
+    fprintf(stderr, "%s\n", card_refusal_text(number));
 }
 
 /* Makes the card's calls and prints what they answer. Returns the exit status. */
@@ -152,23 +113,18 @@ static int compare(struct part reference, struct part first, struct part second)
     /* Two accepted lists have at most CARD_LEAST entries, and so at most as many clusters. */
     static card_cluster plan[CARD_LEAST];
     static uint8_t marks[CARD_LEAST];
-    static struct entry entries[CARD_LEAST];
+    static card_entry entries[CARD_LEAST];
 
-    card_answer answer = card_plan(reference.bytes, reference.count, name, sizeof name, first.bytes, first.count,
-                                   second.bytes, second.count, plan, CARD_LEAST);
-    size_t clusters = answer.value; /* 0 where it is refused */
-
-    /* Each call marks the entries of its cluster only: once all are made, every entry has its mark. */
-    for (size_t i = 0; i < clusters && answer.number == CARD_ANSWERED; i++)
-        answer = card_mark(reference.bytes, reference.count, name, sizeof name, first.bytes, first.count, second.bytes,
-                           second.count, plan, CARD_LEAST, i, marks, CARD_LEAST);
-
-    if (answer.number != CARD_ANSWERED) {
-        printf("refused\t%u\t%u\t%u\n", (unsigned)answer.number, (unsigned)answer.list, (unsigned)answer.line);
+    card_all_marked marked = card_mark_all(reference.bytes, reference.count, name, sizeof name, first.bytes, first.count,
+                                           second.bytes, second.count, plan, CARD_LEAST, marks, CARD_LEAST);
+    if (marked.number != CARD_ANSWERED) {
+        print_refused(marked.number, marked.list, marked.line);
         return REFUSED;
     }
-    size_t count = merge(first, second, entries);
-    print_matched(entries, marks, count);
+    /* The two calls refuse the same lists, so this one is answered. */
+    card_answer merged = card_entries(reference.bytes, reference.count, name, sizeof name, first.bytes, first.count,
+                                      second.bytes, second.count, entries, CARD_LEAST);
+    print_matched(entries, marks, merged.value, first, second);
     return ANSWERED;
 }
 
@@ -178,6 +134,10 @@ int main(int argc, char **argv)
     const char *paths[3] = {"reference.txt", "first.vcf", "second.vcf"};
     struct part reference, first, second;
 
+    if (!CARD_FITS(card_version())) {
+        fprintf(stderr, "matched: libcard_abi.a is of another version than card.h\n");
+        return FAILED;
+    }
     if (argc == 4) {
         memcpy(paths, argv + 1, sizeof paths);
     } else if (argc > 2) {

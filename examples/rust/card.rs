@@ -4,27 +4,16 @@
 //! pointer is never null and is valid for its length, and nothing else reads or writes what is lent as `&mut`. So the functions
 //! of this file are safe, and no others call the library.
 
-/// The room that a plan and a buffer of marks must have: so many clusters, so many bytes (CARD_LEAST).
-pub const LEAST: usize = 1024;
+use std::fmt;
 
-/// The value that says that a cluster is undecided (CARD_UNDECIDED).
-const UNDECIDED: u32 = u32::MAX;
+/// The version of include/card.h that this file follows (CARD_VERSION).
+const VERSION: u32 = 1 << 16;
 
-/// A cluster: its first entry in merged order, from 0, and its number of entries (card_cluster).
-#[repr(C)]
-#[derive(Clone, Copy, Debug, Default, PartialEq, Eq)]
-pub struct Cluster {
-    pub first: u32,
-    pub count: u32,
-}
+/// The room that a plan, a buffer of marks and one of entries must have: so many clusters, bytes, entries (CARD_LEAST).
+const LEAST: usize = 1024;
 
-/// Why a call is refused: a number of card_refusal, and the list and the line that it is about, 0 where it is about none.
-#[derive(Clone, Copy, Debug, PartialEq, Eq)]
-pub struct Refusal {
-    pub number: u32,
-    pub list: u32,
-    pub line: u32,
-}
+/// Each refusal in words: number, name, what is wrong, what to do.
+const REFUSALS: &str = include_str!("../../docs/refusals.tsv");
 
 /// Two lists, the bases that they are on, without LF, and the name that CHROM of every record has to be.
 #[derive(Clone, Copy)]
@@ -35,12 +24,58 @@ pub struct Lists<'a> {
     pub second: &'a [u8],
 }
 
-/// Cuts two lists into clusters, writes one record a cluster at the start of the plan, and answers how many there are.
-pub fn plan(lists: &Lists, plan: &mut [Cluster]) -> Result<usize, Refusal> {
+/// Where an entry stands: its list, 1 or 2; its number there, from 0; its line in the list's text, from 1; and its cluster, from
+/// 0 (card_entry).
+#[repr(C)]
+#[derive(Clone, Copy, Debug, Default, PartialEq, Eq)]
+pub struct Entry {
+    pub list: u32,
+    pub entry: u32,
+    pub line: u32,
+    pub cluster: u32,
+}
+
+/// Why a call is refused: a number of card_refusal, and the list and the line that it is about, 0 where it is about none.
+#[repr(C)]
+#[derive(Clone, Copy, Debug, PartialEq, Eq)]
+pub struct Refusal {
+    pub number: u32,
+    pub list: u32,
+    pub line: u32,
+}
+
+/// Where it is, and what is wrong there.
+impl fmt::Display for Refusal {
+    fn fmt(&self, f: &mut fmt::Formatter) -> fmt::Result {
+        let Refusal { number, list, line } = self;
+        if *list > 0 {
+            write!(f, "list {list}: ")?;
+        }
+        if *line > 0 {
+            write!(f, "line {line}: ")?;
+        }
+        let row = REFUSALS.lines().find(|row| row.starts_with(&format!("{number}\t")));
+        f.write_str(row.and_then(|row| row.split('\t').nth(2)).unwrap_or_default())
+    }
+}
+
+/// Whether the library linked does what this file says: its major part is the same, its minor part not lower (CARD_FITS).
+pub fn fits() -> bool {
+    // SAFETY: the call takes nothing.
+    let linked = unsafe { library::card_version() };
+    linked >> 16 == VERSION >> 16 && linked & 0xffff >= VERSION & 0xffff
+}
+
+/// The entries of both lists in merged order, each with its mark: `+`, or `-` where it matches with its two copies exchanged;
+/// `0` where it does not match; `?` where its cluster is undecided.
+pub fn marked(lists: &Lists) -> Result<Vec<(Entry, u8)>, Refusal> {
     let Lists { reference, name, first, second } = lists;
-    // SAFETY: each pointer and length are those of a slice, and only `plan`, which no other slice overlaps, is written.
-    let answer = unsafe {
-        library::card_plan(
+    let mut plan = [[0; 2]; LEAST];
+    let mut marks = [0; LEAST];
+    let mut entries = [Entry::default(); LEAST];
+    // SAFETY: each pointer and length are those of a slice, and only `plan` and `marks`, which overlap no other, are written.
+    let all = unsafe {
+        library::card_mark_all(
             reference.as_ptr(),
             reference.len(),
             name.as_ptr(),
@@ -51,22 +86,14 @@ pub fn plan(lists: &Lists, plan: &mut [Cluster]) -> Result<usize, Refusal> {
             second.len(),
             plan.as_mut_ptr(),
             plan.len(),
+            marks.as_mut_ptr(),
+            marks.len(),
         )
     };
-    answer.value().map(|clusters| clusters as usize)
-}
-
-/// Marks the entries of one cluster, each at its place in merged order, and answers the cluster's score: none where it is undecided.
-pub fn mark(
-    lists: &Lists,
-    plan: &[Cluster],
-    cluster: usize,
-    marks: &mut [u8],
-) -> Result<Option<u32>, Refusal> {
-    let Lists { reference, name, first, second } = lists;
-    // SAFETY: each pointer and length are those of a slice, and only `marks`, which no other slice overlaps, is written.
-    let answer = unsafe {
-        library::card_mark(
+    all.told.answered()?;
+    // SAFETY: each pointer and length are those of a slice, and only `entries`, which no other slice overlaps, is written.
+    let merged = unsafe {
+        library::card_entries(
             reference.as_ptr(),
             reference.len(),
             name.as_ptr(),
@@ -75,44 +102,52 @@ pub fn mark(
             first.len(),
             second.as_ptr(),
             second.len(),
-            plan.as_ptr(),
-            plan.len(),
-            cluster,
-            marks.as_mut_ptr(),
-            marks.len(),
+            entries.as_mut_ptr(),
+            entries.len(),
         )
     };
-    answer.value().map(|score| (score != UNDECIDED).then_some(score))
+    merged.told.answered()?;
+    Ok(entries.into_iter().zip(marks).take(merged.value as usize).collect())
+}
+
+impl Refusal {
+    /// The refusal, unless its number says that the call was answered.
+    fn answered(self) -> Result<(), Refusal> {
+        if self.number == 0 {
+            Ok(())
+        } else {
+            Err(self)
+        }
+    }
 }
 
 /// The calls as include/card.h declares them.
 mod library {
-    use super::{Cluster, Refusal};
+    use super::{Entry, Refusal};
 
-    /// What a call answers (card_answer).
+    /// What card_entries answers (card_answer): its value is the number of entries.
     #[repr(C)]
     pub struct Answer {
-        number: u32,
-        list: u32,
-        line: u32,
-        value: u32,
+        pub told: Refusal,
+        pub value: u32,
     }
 
-    impl Answer {
-        /// The value, or the refusal where the number is one.
-        pub fn value(self) -> Result<u32, Refusal> {
-            let Answer { number, list, line, value } = self;
-            if number == 0 {
-                Ok(value)
-            } else {
-                Err(Refusal { number, list, line })
-            }
-        }
+    /// What card_mark_all answers (card_all_marked): the number of clusters, and the sum of the scores of those decided.
+    #[repr(C)]
+    pub struct AllMarked {
+        pub told: Refusal,
+        _clusters: u32,
+        _score: u32,
     }
+
+    /// A cluster: its first entry in merged order, from 0, and its number of entries (card_cluster).
+    type Cluster = [u32; 2];
 
     #[link(name = "card_abi", kind = "static")]
     extern "C" {
-        pub fn card_plan(
+        pub fn card_version() -> u32;
+
+        pub fn card_mark_all(
             reference: *const u8,
             reference_count: usize,
             name: *const u8,
@@ -123,9 +158,11 @@ mod library {
             second_count: usize,
             plan: *mut Cluster,
             plan_count: usize,
-        ) -> Answer;
+            marks: *mut u8,
+            marks_count: usize,
+        ) -> AllMarked;
 
-        pub fn card_mark(
+        pub fn card_entries(
             reference: *const u8,
             reference_count: usize,
             name: *const u8,
@@ -134,11 +171,8 @@ mod library {
             first_count: usize,
             second: *const u8,
             second_count: usize,
-            plan: *const Cluster,
-            plan_count: usize,
-            cluster: usize,
-            marks: *mut u8,
-            marks_count: usize,
+            entries: *mut Entry,
+            entries_count: usize,
         ) -> Answer;
     }
 }

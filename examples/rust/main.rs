@@ -4,9 +4,10 @@
 //!
 //! It prints what examples/c/matched.c prints: one line a matched entry, in merged order, with its list, 1 or 2, a TAB, and its
 //! record as it stands in the file; then how many are unmatched and undecided. Where the card refuses the input, the only
-//! line is `refused`, number, list and line (include/card.h says what they mean). Fields are TAB-separated.
+//! line is `refused`, number, list and line, and standard error says what is wrong there. Fields are TAB-separated.
 //!
-//! Exit status: 0; 1 where the card refuses the input; 2 where a file cannot be read or the lines cannot be written.
+//! Exit status: 0; 1 where the card refuses the input; 2 where a file cannot be read, the lines cannot be written, or the
+//! library linked is of another version than card.rs.
 //!
 //! To build it on x86-64 Linux, in the top folder:
 //!
@@ -14,9 +15,8 @@
 //!     rustc --edition 2021 -O -L target/staticlib examples/rust/main.rs -o matched
 
 mod card;
-mod merged;
 
-use card::{Cluster, Lists, Refusal};
+use card::{Lists, Refusal};
 use std::io::Write;
 use std::path::{Path, PathBuf};
 use std::process::ExitCode;
@@ -37,12 +37,17 @@ fn main() -> ExitCode {
 
 /// Reads the files and prints what the card answers, or says what went wrong outside the card.
 fn run() -> Result<ExitCode, String> {
+    if !card::fits() {
+        return Err("libcard_abi.a is of another version than card.rs".to_owned());
+    }
     let [reference, first, second] = paths()?;
     let (reference, first, second) = (read(&reference)?, read(&first)?, read(&second)?);
     let lists = Lists { reference: bases(&reference), name: NAME, first: &first, second: &second };
     let (lines, status) = match matched(&lists) {
         Ok(lines) => (lines, ExitCode::SUCCESS),
-        Err(Refusal { number, list, line }) => {
+        Err(refusal) => {
+            let Refusal { number, list, line } = refusal;
+            eprintln!("matched: {refusal}");
             (format!("refused\t{number}\t{list}\t{line}\n").into_bytes(), ExitCode::from(REFUSED))
         }
     };
@@ -78,29 +83,27 @@ fn bases(file: &[u8]) -> &[u8] {
     file.strip_suffix(b"\n").unwrap_or(&[])
 }
 
-/// Makes the card's calls, and answers the lines to print.
+/// Asks the card, and answers the lines to print.
 fn matched(lists: &Lists) -> Result<Vec<u8>, Refusal> {
-    let mut plan = [Cluster::default(); card::LEAST];
-    let mut marks = [0; card::LEAST];
-    let clusters = card::plan(lists, &mut plan)?;
-    // Each call marks the entries of its cluster only: once all are made, every entry has its mark.
-    for cluster in 0..clusters {
-        card::mark(lists, &plan, cluster, &mut marks)?;
-    }
-
+    let texts = [lists.first, lists.second].map(lines_of);
     let (mut lines, mut unmatched, mut undecided) = (Vec::new(), 0, 0);
-    for (entry, mark) in merged::merged(lists.first, lists.second).iter().zip(marks) {
+    for (entry, mark) in card::marked(lists)? {
         match mark {
             b'0' => unmatched += 1,
             b'?' => undecided += 1,
             // `+`, or `-` where it matches with its two copies exchanged. A record may hold bytes that are no UTF-8.
             _ => {
                 lines.extend(format!("{}\t", entry.list).into_bytes());
-                lines.extend(entry.record);
+                lines.extend(texts[entry.list as usize - 1][entry.line as usize - 1]);
                 lines.push(b'\n');
             }
         }
     }
     lines.extend(format!("unmatched\t{unmatched}\tundecided\t{undecided}\n").into_bytes());
     Ok(lines)
+}
+
+/// The lines of a text, without their LFs.
+fn lines_of(text: &[u8]) -> Vec<&[u8]> {
+    text.split(|byte| *byte == b'\n').collect()
 }
