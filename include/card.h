@@ -40,7 +40,7 @@ extern "C" {
 #define CARD_VERSION_MAJOR 1u
 #define CARD_VERSION_MINOR 0u
 #define CARD_VERSION (CARD_VERSION_MAJOR << 16 | CARD_VERSION_MINOR)
-#define CARD_FITS(version) ((version) >> 16 == CARD_VERSION_MAJOR && ((version)&0xffffu) >= CARD_VERSION_MINOR)
+#define CARD_FITS(version) ((version) >> 16 == CARD_VERSION_MAJOR && ((version)&0xffffu) + 1 > CARD_VERSION_MINOR)
 
 uint32_t card_version(void);
 
