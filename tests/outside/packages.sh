@@ -23,13 +23,14 @@ update() {
 
 # get NAME: fetches a package and lays out its files
 get() {
-    local new=$packages/new.$$
-    rm -rf "$new"
+    local new=$packages/new.$$ got=0
     mkdir -p "$new/files" "$(dirname "$packages/$1")"
     case $1 in
-    source/*) (cd "$new" && apt_get source --download-only "${1#source/}" && tar -xf ./*.orig.tar.?z* -C files) ;;
+    source/*) (cd "$new" && apt_get source --download-only "${1#source/}" && tar -xf ./*.orig.tar.?z -C files) ;;
     *) (cd "$new" && apt_get download "$1" && dpkg -x ./*.deb files) ;;
-    esac && mv -T "$new/files" "$packages/$1"
+    esac && mv -T "$new/files" "$packages/$1" || got=1
+    rm -rf "$new"
+    return $got
 }
 
 fetch() {
