@@ -1,0 +1,222 @@
+# shellcheck shell=bash
+# What the scripts compare, normalise, counts and lot share: their words, their files, how a program is started, and what is told of a
+# refusal. A script stands in the repository's top folder or, installed as card-NAME, in PREFIX/bin; `here` is the folder where it is.
+me=${0##*/}
+unset CDPATH
+
+# Each message is one line on standard error; the exit status says the rest. What nobody thought of ends with 3, never with 1.
+say() { printf '%s: %s\n' "$me" "${*//[[:cntrl:]]/?}" >&2 || true; }
+wrong_use() {
+    say "$*"
+    say "$0 --help says how it is used"
+    exit 2
+}
+fail() {
+    say "$*"
+    exit 3
+}
+set -E
+trap 'fail "stopped at line $LINENO of ${BASH_SOURCE[0]##*/}"' ERR
+
+work=$(mktemp -d) || fail "there is no room for a temporary folder"
+trap 'rm -rf "$work"' EXIT
+files=(reference.txt first.vcf second.vcf)
+
+: "${here:?}"
+if [ -e "$here/crates.txt" ]; then
+    programs=$here/target/bin table=$here/docs/refusals.tsv by_kit=$here/tests/run
+    # shellcheck source=programs/build.sh
+    source "$here/programs/build.sh"
+else
+    programs=$here/../libexec/card table=$here/../share/card/refusals.tsv by_kit=$here/../libexec/card/run
+    need() { :; }
+fi
+
+# The end of every --help.
+help_end() {
+    cat <<END
+
+  --name NAME   what CHROM of every record has to be (else chr1)
+  --help        prints this
+  --            ends the options
+
+A file that cannot be read counts as empty. Where the input is refused,
+standard error says what is wrong, in which file and line, and what to do.
+
+Exit status: 0 answered; 1 refused; 2 wrong use; 3 anything else, such as a
+program that could not be built or started.
+
+END
+    [ ! -e "$here/crates.txt" ] || cat <<END
+A program that is not built, or is older than its sources, is proved and built
+first. That takes some five minutes and needs the Rattle kit's rt.
+
+END
+    cat <<END
+The programs are for x86-64 Linux (glibc 2.34 or later). Elsewhere they run
+under qemu-x86_64 with an x86-64 C library, which Debian has:
+    dpkg --add-architecture amd64 && apt-get update
+    apt-get install qemu-user libc6:amd64
+END
+}
+
+# read_words WORD..: takes the options. Leaves the other words in `words`, and in `name` the name, where one is given.
+read_words() {
+    words=() name=()
+    while [ $# -gt 0 ]; do
+        case $1 in
+        --help | -h) help && help_end && exit 0 ;;
+        --name)
+            [ $# -gt 1 ] || wrong_use "--name has no name behind it"
+            name=("$2")
+            shift
+            ;;
+        --name=*) name=("${1#--name=}") ;;
+        --)
+            words+=("${@:2}")
+            break
+            ;;
+        -?*) wrong_use "there is no option $1" ;;
+        *) words+=("$1") ;;
+        esac
+        shift
+    done
+    [ -n "${name[0]-chr1}" ] || wrong_use "--name has an empty name behind it"
+}
+
+# take_folder DIR FILE..: leaves the paths of these files of the folder in `paths`.
+take_folder() {
+    [ ! -f "$1" ] || wrong_use "$1 is a file, not a folder"
+    [ -d "$1" ] || wrong_use "no such folder: $1"
+    paths=("${@:2}")
+    paths=("${paths[@]/#/${1%/}/}")
+}
+
+# Puts the files of `paths` into the folder $work/files, under the names that the programs read: a plain file as a link, anything else (a
+# pipe, say) as a copy, for it can be read only once; the copy ends at 16 MiB, far above what is taken. A file that cannot be read is told,
+# and `unread` says so.
+lay_files() {
+    local i path file why
+    rm -rf "$work/files"
+    mkdir "$work/files"
+    unread=()
+    for i in "${!paths[@]}"; do
+        path=${paths[i]} file=$work/files/${files[i]} why=
+        if [ ! -e "$path" ]; then
+            why="there is no such file"
+        elif [ -d "$path" ]; then
+            why="it is a folder, not a file"
+        elif [ ! -r "$path" ]; then
+            why="there is no permission to read it"
+        elif [ -f "$path" ] && [[ $path != /dev/* && $path != /proc/* ]]; then
+            [[ $path = /* ]] || path=$PWD/$path
+            ln -s "$path" "$file"
+        else
+            head -c 16777216 "$path" >"$file" || why="it cannot be read"
+        fi
+        [ -z "$why" ] || say "$path: $why; it counts as empty"
+        unread[i]=$why
+    done
+}
+
+# The words that start a program here. On x86-64 it starts by itself; elsewhere by the kit's emulator and C library, or by qemu-x86_64.
+find_starter() {
+    local loader=/usr/x86_64-linux-gnu/lib/ld-linux-x86-64.so.2
+    starter=()
+    if [ "$(uname -m)" = x86_64 ] && [ -e /lib64/ld-linux-x86-64.so.2 ]; then
+        return
+    elif command -v rt >/dev/null; then
+        starter=("$by_kit")
+    elif command -v qemu-x86_64 >/dev/null; then
+        starter=(qemu-x86_64)
+        [ -e /lib64/ld-linux-x86-64.so.2 ] || [ ! -e "$loader" ] || starter+=("$loader" --library-path "${loader%/*}")
+    else
+        fail "the programs are for x86-64 Linux, and there is no qemu-x86_64 to run them here; $0 --help says how to get it"
+    fi
+}
+
+# start FOLDER PROGRAM WORD..: runs it in the folder. Leaves what it prints in $work/printed, and in `number`, `list` and `line` those of
+# its refusal, or 0. The programs have no exit status of their own: another than 0 means that it was not started, or was stopped.
+start() {
+    local folder=$1 program=$programs/$2 ended word
+    shift 2
+    [ -x "$program" ] || fail "there is no program $program"
+    find_starter
+    run_once "$@"
+    if [ "$ended" -ne 0 ] && [ ${#starter[@]} -eq 0 ] && command -v rt >/dev/null; then
+        starter=("$by_kit") # the machine's C library may be older than the program's
+        run_once "$@"
+    fi
+    [ "$ended" -eq 0 ] || fail "$program ended with status $ended: $(head -n 3 "$work/said")"
+    [ "$(tail -c 1 "$work/printed" | od -An -tx1)" = " 0a" ] || fail "$program printed no whole line"
+    IFS=$'\t' read -r word number list line <"$work/printed"
+    [ "$word" = refused ] || number=0 list=0 line=0
+}
+run_once() {
+    ended=0
+    (cd "$folder" && ${starter[@]+"${starter[@]}"} "$program" "$@") </dev/null >"$work/printed" 2>"$work/said" || ended=$?
+}
+
+# words_of NUMBER: leaves in `wrong` and `todo` what the table says of a refusal.
+words_of() {
+    local row
+    while IFS=$'\t' read -r row _ wrong todo; do
+        [ "$row" != "$1" ] || return 0
+    done <"$table" || true
+    wrong="the table of refusals has no such number" todo="see $table"
+}
+
+# show_line FILE LINE: its beginning, the bytes that do not print written as \t, \r, .. or in octal.
+show_line() {
+    local text
+    text=$(LC_ALL=C sed -n "$2{l 0;q}" "$1")
+    if [ -z "$text" ]; then
+        say "  (the text ends before line $2)"
+    elif [ "$text" = "\$" ]; then
+        say "  (the line is empty)"
+    else
+        text=${text%\$}
+        [[ ! $text =~ ^((\\[0-7]{3}|\\.|[^\\]){60}). ]] || text=${BASH_REMATCH[1]}..
+        say "  $text"
+    fi
+}
+
+# show_file FILE: its size, its end, and its first byte that is no base where it is a reference.
+show_file() {
+    local size bases end="it does not end in LF"
+    size=$(wc -c <"$1")
+    if [ "$size" -eq 0 ]; then
+        say "  (it is empty)"
+        return
+    fi
+    [ "$(tail -c 1 "$1" | od -An -tx1)" != " 0a" ] || end="it ends in LF"
+    say "  (it has $size bytes, and $end)"
+    [ "${1##*/}" = reference.txt ] || return 0
+    bases=$(LC_ALL=C sed '1s/[^ACGTN].*//;q' "$1" | tr -d '\n' | wc -c)
+    [ "$bases" -ge "$((size - 1))" ] || say "  (its byte $((bases + 1)) is no base: $(od -An -c -j "$bases" -N 1 "$1" | tr -d ' '))"
+}
+
+# Says of the refusal that `start` left what is wrong, where, and what to do.
+tell_refusal() {
+    local file=$work/files/${files[list]} where=${paths[list]}
+    [ "$line" -eq 0 ] || where="$where, line $line"
+    words_of "$number"
+    say "$where: $wrong (refusal $number)"
+    [ -z "${unread[list]}" ] || return 0
+    if [ "$line" -gt 0 ]; then show_line "$file" "$line"; else show_file "$file"; fi
+    say "$todo"
+}
+
+# print_answer: what the program printed, byte for byte.
+print_answer() { cat "$work/printed" || fail "what the program printed could not be written"; }
+
+# answer PROGRAM: starts it on the files of `paths`, prints what it prints, and ends with 0 or, where that is a refusal, with 1.
+answer() {
+    need "$1"
+    lay_files
+    start "$work/files" "$1" ${name[@]+"${name[@]}"}
+    print_answer
+    [ "$number" -ne 0 ] || exit 0
+    tell_refusal
+    exit 1
+}
