@@ -112,17 +112,18 @@ lay_files() {
             [[ $path = /* ]] || path=$PWD/$path
             ln -s "$path" "$file"
         else
-            head -c 16777216 "$path" >"$file" || why="it cannot be read"
+            head -c 16777216 <"$path" >"$file" || why="it cannot be read"
         fi
         [ -z "$why" ] || say "$path: $why; it counts as empty"
         unread[i]=$why
     done
 }
 
-# The words that start a program here. On x86-64 it starts by itself; elsewhere by the kit's emulator and C library, or by qemu-x86_64.
+# Leaves in `starter` the words that start a program here. On x86-64 it starts by itself; elsewhere by the kit's emulator and C library, or by qemu-x86_64.
 find_starter() {
     local loader=/usr/x86_64-linux-gnu/lib/ld-linux-x86-64.so.2
-    starter=()
+    [ -z "${starter_found-}" ] || return 0
+    starter=() starter_found=1
     if [ "$(uname -m)" = x86_64 ] && [ -e /lib64/ld-linux-x86-64.so.2 ]; then
         return
     elif command -v rt >/dev/null; then
@@ -154,7 +155,7 @@ start() {
 }
 run_once() {
     ended=0
-    (cd "$folder" && ${starter[@]+"${starter[@]}"} "$program" "$@") </dev/null >"$work/printed" 2>"$work/said" || ended=$?
+    (cd "$folder" && exec ${starter[@]+"${starter[@]}"} "$program" "$@") </dev/null >"$work/printed" 2>"$work/said" || ended=$?
 }
 
 # words_of NUMBER: leaves in `wrong` and `todo` what the table says of a refusal.
@@ -183,13 +184,13 @@ show_line() {
 
 # show_file FILE: its size, its end, and its first byte that is no base where it is a reference.
 show_file() {
-    local size bases end="it does not end in LF"
+    local size bases end="does not end in LF"
     size=$(wc -c <"$1")
     if [ "$size" -eq 0 ]; then
         say "  (it is empty)"
         return
     fi
-    [ "$(tail -c 1 "$1" | od -An -tx1)" != " 0a" ] || end="it ends in LF"
+    [ "$(tail -c 1 "$1" | od -An -tx1)" != " 0a" ] || end="ends in LF"
     say "  (it has $size bytes, and $end)"
     [ "${1##*/}" = reference.txt ] || return 0
     bases=$(LC_ALL=C sed '1s/[^ACGTN].*//;q' "$1" | tr -d '\n' | wc -c)
@@ -204,6 +205,7 @@ tell_refusal() {
     say "$where: $wrong (refusal $number)"
     [ -z "${unread[list]}" ] || return 0
     if [ "$line" -gt 0 ]; then show_line "$file" "$line"; else show_file "$file"; fi
+    [ "$number" -ne 7 ] || say "  (the name given is ${name[0]-chr1}; --name gives another)"
     say "$todo"
 }
 
