@@ -60,12 +60,20 @@ under qemu-x86_64 with an x86-64 C library, which Debian has:
 END
 }
 
+# Prints all of --help, as each script says it in `help`, and ends.
+print_help() {
+    local text
+    text=$(help && help_end)
+    printf '%s\n' "$text" || fail "the help could not be written"
+    exit 0
+}
+
 # read_words WORD..: takes the options. Leaves the other words in `words`, and in `name` the name, where one is given.
 read_words() {
     words=() name=()
     while [ $# -gt 0 ]; do
         case $1 in
-        --help | -h) help && help_end && exit 0 ;;
+        --help | -h) print_help ;;
         --name)
             [ $# -gt 1 ] || wrong_use "--name has no name behind it"
             name=("$2")
@@ -209,8 +217,13 @@ tell_refusal() {
     say "$todo"
 }
 
-# print_answer: what the program printed, byte for byte.
-print_answer() { cat "$work/printed" || fail "what the program printed could not be written"; }
+# Prints what the program printed, byte for byte. Where nobody reads any more (a pipe to head, say) there is nothing to tell.
+print_answer() {
+    local ended=0
+    cat "$work/printed" || ended=$?
+    [ "$ended" -ne 141 ] || exit 141
+    [ "$ended" -eq 0 ] || fail "what the program printed could not be written"
+}
 
 # answer PROGRAM: starts it on the files of `paths`, prints what it prints, and ends with 0 or, where that is a refusal, with 1.
 answer() {
