@@ -47,7 +47,7 @@ why_build() {
 progress() {
     local line proved=0
     while IFS= read -r line; do
-        [[ $line =~ ^rt:\ ([a-z_]+)\ proved\ \((.*)\)$ ]] || continue
+        [[ $line =~ ^rt:\ ([A-Za-z0-9_]+)\ proved\ \((.*)\)$ ]] || continue
         proved=$((proved + 1))
         [[ ${BASH_REMATCH[2]} = unchanged* ]] || say "crate $proved of $1, ${BASH_REMATCH[1]}: proved (${BASH_REMATCH[2]})"
     done

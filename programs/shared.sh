@@ -1,6 +1,6 @@
 # shellcheck shell=bash
-# What the scripts compare, normalise, counts and lot share: their words, their files, how a program is started, and what is told of a
-# refusal. A script stands in the repository's top folder or, installed as card-NAME, in PREFIX/bin; `here` is the folder where it is.
+# What the scripts compare, normalise, counts and lot share: their words, their files, and how a program is started and its answer printed.
+# A script stands in the repository's top folder or, installed as card-NAME, in PREFIX/bin; `here` is that folder.
 me=${0##*/}
 unset CDPATH
 
@@ -31,6 +31,8 @@ else
     programs=$here/../libexec/card table=$here/../share/card/refusals.tsv by_kit=$here/../libexec/card/run
     need() { :; }
 fi
+# shellcheck source=programs/refusal.sh
+source "${BASH_SOURCE[0]%/*}/refusal.sh"
 
 # The end of every --help.
 help_end() {
@@ -96,8 +98,9 @@ read_words() {
 take_folder() {
     [ ! -f "$1" ] || wrong_use "$1 is a file, not a folder"
     [ -d "$1" ] || wrong_use "no such folder: $1"
-    paths=("${@:2}")
-    paths=("${paths[@]/#/${1%/}/}")
+    local file
+    paths=()
+    for file in "${@:2}"; do paths+=("${1%/}/$file"); done
 }
 
 # Puts the files of `paths` into the folder $work/files, under the names that the programs read: a plain file as a link, anything else (a
@@ -127,7 +130,8 @@ lay_files() {
     done
 }
 
-# Leaves in `starter` the words that start a program here. On x86-64 it starts by itself; elsewhere by the kit's emulator and C library, or by qemu-x86_64.
+# Leaves in `starter` the words that start a program here. On x86-64 it starts by itself; elsewhere by the kit's emulator and C
+# library, or by qemu-x86_64.
 find_starter() {
     local loader=/usr/x86_64-linux-gnu/lib/ld-linux-x86-64.so.2
     [ -z "${starter_found-}" ] || return 0
@@ -164,57 +168,6 @@ start() {
 run_once() {
     ended=0
     (cd "$folder" && exec ${starter[@]+"${starter[@]}"} "$program" "$@") </dev/null >"$work/printed" 2>"$work/said" || ended=$?
-}
-
-# words_of NUMBER: leaves in `wrong` and `todo` what the table says of a refusal.
-words_of() {
-    local row
-    while IFS=$'\t' read -r row _ wrong todo; do
-        [ "$row" != "$1" ] || return 0
-    done <"$table" || true
-    wrong="the table of refusals has no such number" todo="see $table"
-}
-
-# show_line FILE LINE: its beginning, the bytes that do not print written as \t, \r, .. or in octal.
-show_line() {
-    local text
-    text=$(LC_ALL=C sed -n "$2{l 0;q}" "$1")
-    if [ -z "$text" ]; then
-        say "  (the text ends before line $2)"
-    elif [ "$text" = "\$" ]; then
-        say "  (the line is empty)"
-    else
-        text=${text%\$}
-        [[ ! $text =~ ^((\\[0-7]{3}|\\.|[^\\]){60}). ]] || text=${BASH_REMATCH[1]}..
-        say "  $text"
-    fi
-}
-
-# show_file FILE: its size, its end, and its first byte that is no base where it is a reference.
-show_file() {
-    local size bases end="does not end in LF"
-    size=$(wc -c <"$1")
-    if [ "$size" -eq 0 ]; then
-        say "  (it is empty)"
-        return
-    fi
-    [ "$(tail -c 1 "$1" | od -An -tx1)" != " 0a" ] || end="ends in LF"
-    say "  (it has $size bytes, and $end)"
-    [ "${1##*/}" = reference.txt ] || return 0
-    bases=$(LC_ALL=C sed '1s/[^ACGTN].*//;q' "$1" | tr -d '\n' | wc -c)
-    [ "$bases" -ge "$((size - 1))" ] || say "  (its byte $((bases + 1)) is no base: $(od -An -c -j "$bases" -N 1 "$1" | tr -d ' '))"
-}
-
-# Says of the refusal that `start` left what is wrong, where, and what to do.
-tell_refusal() {
-    local file=$work/files/${files[list]} where=${paths[list]}
-    [ "$line" -eq 0 ] || where="$where, line $line"
-    words_of "$number"
-    say "$where: $wrong (refusal $number)"
-    [ -z "${unread[list]}" ] || return 0
-    if [ "$line" -gt 0 ]; then show_line "$file" "$line"; else show_file "$file"; fi
-    [ "$number" -ne 7 ] || say "  (the name given is ${name[0]-chr1}; --name gives another)"
-    say "$todo"
 }
 
 # Prints what the program printed, byte for byte. Where nobody reads any more (a pipe to head, say) there is nothing to tell.

@@ -7,6 +7,12 @@ work=$(mktemp -d)
 trap 'rm -rf "$work"' EXIT
 ran=0 failed=0
 
+# Where files are younger only because they were checked out, the scripts ask rt once: here, so that no test sees it.
+for words in compare "normalise tests/cases/01" "counts tests/cases/01" "lot examples/lot/run1"; do
+    # shellcheck disable=SC2086
+    ./$words >"$work/printed" 2>"$work/told" || { cat "$work/told" >&2 && exit 1; }
+done
+
 # failing WHAT: counts it, and shows what the last command did
 failing() {
     failed=$((failed + 1))
