@@ -49,6 +49,10 @@ tell_refusal() {
     words_of "$number"
     say "$where: $wrong (refusal $number)"
     [ -z "${unread[list]}" ] || return 0
+    if [ "$(head -c 2 "$file" | od -An -tx1)" = " 1f 8b" ]; then
+        say "it is compressed: give <(zcat FILE) in its place"
+        return 0
+    fi
     if [ "$line" -gt 0 ]; then show_line "$file" "$line"; else show_file "$file"; fi
     [ "$number" -ne 7 ] || say "  (the name given is ${name[0]-chr1}; --name gives another)"
     say "$todo"
