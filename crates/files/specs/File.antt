@@ -1,4 +1,4 @@
--- The files of compare and normalise. Document 01: reference.txt is bases, then one LF; the name is `chr1`.
+-- The files of the programs. Document 01: reference.txt is bases, then one LF; the name is `chr1`, where a program is given no other.
 -- Assumes nothing: these are definitions.
 use mathlib.Core.Bool.{Bool, _&&_}
 use mathlib.Core.List.{List, [], _∷_}

@@ -1,7 +1,10 @@
-// A program's files, read into lent room.
+// A program's files, read into lent room, and what it prints.
 ghost use mathlib.Core.Path.{_≡_};
+ghost use Prim.Native.Nat.{_≤_};
+ghost use lib.ListN.{length};
 ghost use Rattle.io.specs.Counts.{Counts};
 ghost use Rattle.files.specs.File.{endsInLf?};
+use libc::STDOUT_FILENO;
 use vcf::bytes::LF;
 use vcf::list::LONGEST_TEXT;
 
@@ -31,4 +34,11 @@ pub fn ends_in_lf(file: &[u8]) -> bool
         return false;
     }
     file[n - 1] == LF
+}
+
+// Prints the bytes up to an end.
+pub fn print(text: &[u8], end: usize)
+    requires { ⌜ end ≤ length (now text) ⌝ }
+{
+    io::write_all(STDOUT_FILENO, &text[0..end]);
 }
