@@ -1,13 +1,13 @@
 -- Each contract determines its result, and what it leaves in the room that it is lent: any two that it allows for the same arguments are equal.
--- `Post` is the contract as src/ states it. What `read_file` reads is not told by a contract.
+-- `Post` is the contract as src/ states it.
 -- Assumes nothing.
 use mathlib.Core.List.{List}
 use mathlib.Core.Path.{sym, _∙_}
 use Prim.Native.Nat.{ℕ}
 use denote.Ref.{now}
 use Rattle.bases.proofs.Determines.{OneResult, OneLeft}
-use Rattle.compare.proofs.compared.compare_text.Kinds as compare-text-kinds
-use Rattle.compare.proofs.compared.compare_text.Reads as compare-text
+use Rattle.compare.proofs.compared.compare_given.Kinds as compare-given-kinds
+use Rattle.compare.proofs.compared.compare_given.Reads as compare-given
 use Rattle.compare.proofs.line.put_entry.Kinds as put-entry-kinds
 use Rattle.compare.proofs.line.put_entry.Reads as put-entry
 use Rattle.compare.proofs.line.put_heading.Kinds as put-heading-kinds
@@ -41,8 +41,8 @@ make-text-determines κs a z z′ e e′ p q = p .0 ∙ sym (q .0)
 pub make-text-leaves : OneLeft 4 make-text-kinds.ps make-text-kinds.r make-text.Post (List ℕ) (λ κs e. now (e .1 .1 .1 .1 .1 .1 .0))
 make-text-leaves κs a z z′ e e′ p q = p .1 ∙ sym (q .1)
 
-pub compare-text-determines : OneResult 4 compare-text-kinds.ps compare-text-kinds.r compare-text.Post
-compare-text-determines κs a z z′ e e′ p q = p .0 ∙ sym (q .0)
+pub compare-given-determines : OneResult 2 compare-given-kinds.ps compare-given-kinds.r compare-given.Post
+compare-given-determines κs a z z′ e e′ p q = p .0 ∙ sym (q .0)
 
-pub compare-text-leaves : OneLeft 4 compare-text-kinds.ps compare-text-kinds.r compare-text.Post (List ℕ) (λ κs e. now (e .1 .1 .1 .0))
-compare-text-leaves κs a z z′ e e′ p q = p .1 ∙ sym (q .1)
+pub compare-given-leaves : OneLeft 2 compare-given-kinds.ps compare-given-kinds.r compare-given.Post (List ℕ) (λ κs e. now (e .1 .1 .0))
+compare-given-leaves κs a z z′ e e′ p q = p .1 ∙ sym (q .1)

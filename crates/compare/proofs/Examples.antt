@@ -16,6 +16,7 @@ use Rattle.donors.specs.Apart.{chain?}
 use Rattle.donors.specs.Donor.{donorFrom}
 use Rattle.donors.specs.Items.{over}
 use Rattle.donors.specs.Rules.{edits}
+use Rattle.files.specs.File.{chromName}
 use Rattle.matching.specs.Best.{score}
 use Rattle.matching.specs.BestOf.{every?, allowed?, bestOf}
 use Rattle.matching.specs.Cut.{join}
@@ -62,14 +63,14 @@ printed =
     107 ∷ 10 ∷ 49 ∷ 9 ∷ 50 ∷ 9 ∷ 48 ∷ 9 ∷ 43 ∷ 10 ∷ 50 ∷ 9 ∷ 52 ∷ 9 ∷ 48 ∷ 9 ∷ 43 ∷ 10 ∷ 116 ∷ 111 ∷ 116 ∷ 97 ∷
     108 ∷ 9 ∷ 50 ∷ 9 ∷ 48 ∷ 9 ∷ 48 ∷ 9 ∷ 50 ∷ 10 ∷ []
 
-pub example-1 : comparedText reference first second ≡ printed
+pub example-1 : comparedText reference chromName first second ≡ printed
 unfolding among? letterOf allLetters? anyPeriod? agree? altsWrong? allDigits? valueFrom isPos? copiesWrong? skip full? linesOf judgeLines judgeText until headerWrong? firstRow headerBytes entriesFrom
     digitsOf chain? edits donorFrom over first? better bestOver search score join every? allowed? bestOf totalScore weave merged rest plan recordsFrom firstRefusal howMany ownMarks numbersFrom
     entryLines comparedText
 example-1 = refl
 
 -- refused 1 0 0
-pub example-empty : comparedText [] [] [] ≡ 114 ∷ 101 ∷ 102 ∷ 117 ∷ 115 ∷ 101 ∷ 100 ∷ 9 ∷ 49 ∷ 9 ∷ 48 ∷ 9 ∷ 48 ∷ 10 ∷ []
+pub example-empty : comparedText [] chromName [] [] ≡ 114 ∷ 101 ∷ 102 ∷ 117 ∷ 115 ∷ 101 ∷ 100 ∷ 9 ∷ 49 ∷ 9 ∷ 48 ∷ 9 ∷ 48 ∷ 10 ∷ []
 unfolding among? letterOf allLetters? anyPeriod? agree? altsWrong? allDigits? valueFrom isPos? copiesWrong? skip full? linesOf judgeLines judgeText until headerWrong? firstRow headerBytes entriesFrom
     digitsOf chain? edits donorFrom over first? better bestOver search score join every? allowed? bestOf totalScore weave merged rest plan recordsFrom firstRefusal howMany ownMarks numbersFrom
     entryLines comparedText

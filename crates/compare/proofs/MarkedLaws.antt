@@ -15,7 +15,7 @@ use Rattle.clusters.specs.declared.plan.Cluster.{Cluster}
 use Rattle.clusters.specs.Marks.{clustersOf, allMarks, totalScore}
 use Rattle.clusters.specs.Merged.{mergedItems}
 use Rattle.clusters.specs.Plan.{planOf}
-use Rattle.files.specs.File.{chromName, basesOfFile}
+use Rattle.files.specs.File.{basesOfFile}
 use Rattle.lines.specs.Lines.{largestNumber, refusedText}
 use Rattle.told.specs.Files.{refusalOf, filesAnswered, filesPlan, filesMarks}
 use Rattle.told.proofs.FilesLaws.{Tells, files-tell, files-printable, accepted-files, files-answerable, files-clusters, files-score, files-plan, files-marks, files-marked}
@@ -27,45 +27,45 @@ use Rattle.compare.specs.Printed.{printedText, textMost}
 use Rattle.compare.proofs.AcceptedText.{accepted-makes}
 use Rattle.compare.proofs.ComparedLaws.{accepted-text}
 
-module _ (file first second : List ℕ) (answer : AllMarked) (plan : List Cluster) (before marks : List ℕ) (long : length before ≡ leastRoom)
-    (answered : answer ≡ filesAnswered file first second before) (planned : plan ≡ filesPlan file first second before) (wrote : marks ≡ filesMarks file first second before) where
+module _ (file name first second : List ℕ) (answer : AllMarked) (plan : List Cluster) (before marks : List ℕ) (long : length before ≡ leastRoom)
+    (answered : answer ≡ filesAnswered file name first second before) (planned : plan ≡ filesPlan file name first second before) (wrote : marks ≡ filesMarks file name first second before) where
   abbrev r : List ℕ
   r = basesOfFile file
 
-  tells : Tells answer (refusalOf file first second)
-  tells = rw answered (files-tell file first second before long)
+  tells : Tells answer (refusalOf file name first second)
+  tells = rw answered (files-tell file name first second before long)
 
   pub told-printable : (answer .number ≤ largestNumber) × (answer .list ≤ largestNumber) × (answer .line ≤ largestNumber)
-  told-printable = files-printable file first second before long answer tells
+  told-printable = files-printable file name first second before long answer tells
 
-  pub text-refused : answer .number ≢ 0 → comparedText file first second ≡ refusedText (answer .number) (answer .list) (answer .line)
+  pub text-refused : answer .number ≢ 0 → comparedText file name first second ≡ refusedText (answer .number) (answer .list) (answer .line)
   unfolding comparedText
-  text-refused n = numbers-refused (answer .number) (answer .list) (answer .line) (refusalOf file first second) tells (acceptedText r first second) n
+  text-refused n = numbers-refused (answer .number) (answer .list) (answer .line) (refusalOf file name first second) tells (acceptedText r first second) n
 
   module _ (zero : answer .number ≡ 0) where
-    z : refusalOf file first second .number ≡ 0
+    z : refusalOf file name first second .number ≡ 0
     z = sym (tells .same-number) ∙ zero
 
-    accept : (judgeText r chromName first .number ≡ 0) × (judgeText r chromName second .number ≡ 0)
-    accept = accepted-files file first second z
+    accept : (judgeText r name first .number ≡ 0) × (judgeText r name second .number ≡ 0)
+    accept = accepted-files file name first second z
 
     clusters-are : answer .clusters ≡ length (planOf r first second)
-    clusters-are = ap (λ (a : AllMarked). a .clusters) answered ∙ files-clusters file first second before long z
+    clusters-are = ap (λ (a : AllMarked). a .clusters) answered ∙ files-clusters file name first second before long z
 
     score-is : answer .score ≡ totalScore r (clustersOf r first second)
-    score-is = ap (λ (a : AllMarked). a .score) answered ∙ files-score file first second before long z
+    score-is = ap (λ (a : AllMarked). a .score) answered ∙ files-score file name first second before long z
 
     taken : take (answer .clusters) plan ≡ planOf r first second
-    taken = rw (answered, planned) (files-plan file first second before long z)
+    taken = rw (answered, planned) (files-plan file name first second before long z)
 
     pub text-makes : (room : ℕ) → textMost ≤ room → Makes first second plan (answer .clusters) marks (answer .score) room
     text-makes room h =
-        accepted-makes r chromName first second (accept .0) (accept .1) (files-answerable file first second z) plan (answer .clusters) marks (answer .score) room clusters-are taken
-        (omega (arith, ap length wrote, files-marked file first second before long z)) score-is h
+        accepted-makes r name first second (accept .0) (accept .1) (files-answerable file name first second z) plan (answer .clusters) marks (answer .score) room clusters-are taken
+        (omega (arith, ap length wrote, files-marked file name first second before long z)) score-is h
 
-    pub text-accepted : printedText (take (answer .clusters) plan) (mergedItems first second) marks (answer .score) ≡ comparedText file first second
+    pub text-accepted : printedText (take (answer .clusters) plan) (mergedItems first second) marks (answer .score) ≡ comparedText file name first second
     unfolding comparedText
     text-accepted =
-        accepted-text r chromName first second (accept .0) (accept .1) (take (answer .clusters) plan) marks (drop (0 + length (allMarks r (clustersOf r first second))) before) (answer .score)
-        taken (wrote ∙ files-marks file first second before long z) score-is
-        ∙ sym (numbers-text (answer .number) (answer .list) (answer .line) (refusalOf file first second) tells (acceptedText r first second) zero)
+        accepted-text r name first second (accept .0) (accept .1) (take (answer .clusters) plan) marks (drop (0 + length (allMarks r (clustersOf r first second))) before) (answer .score)
+        taken (wrote ∙ files-marks file name first second before long z) score-is
+        ∙ sym (numbers-text (answer .number) (answer .list) (answer .line) (refusalOf file name first second) tells (acceptedText r first second) zero)

@@ -1,7 +1,7 @@
 -- Laws of the lines that compare prints.
 --     number-read                    a POS is printed as it was read
 --     list-number-few                the number of a list is 1 or 2
---     line-few, total-few            the most bytes that an entry's line and the total line have
+--     line-few                       the most bytes that an entry's line has
 -- Assumes nothing.
 use mathlib.Core.Bool.{Bool, true, false}
 use mathlib.Core.List.{List, [], _∷_, _++_}
@@ -13,11 +13,10 @@ use Rattle.bases.specs.declared.place.Pos.{Pos}
 use Rattle.normal.proofs.DecimalLaws.{decimal-read}
 use Rattle.vcf.specs.Bytes.{LF, TAB}
 use Rattle.vcf.specs.Pos.{readPos}
-use Rattle.clusters.specs.declared.count.Count.{Count}
-use Rattle.lines.specs.Lines.{number, field, fields}
-use Rattle.lines.proofs.FieldLaws.{number-pos, field-few, fields-few}
+use Rattle.lines.specs.Lines.{number, fields}
+use Rattle.lines.proofs.FieldLaws.{number-pos, fields-few}
 use Rattle.compare.proofs.ReadLaws.{pos-le}
-use Rattle.compare.specs.Printed.{listNumber, entryLine, lineMost, totalWord, totalLine, totalMost}
+use Rattle.compare.specs.Printed.{listNumber, entryLine, lineMost}
 
 pub number-read : (f : List ℕ) → 1 ≤ readPos f .0 → number (readPos f .0) ≡ f
 number-read f h = number-pos (readPos f .0) (pos-le f) ∙ decimal-read f h
@@ -30,14 +29,3 @@ pub line-few : (side : Bool) (pos : Pos) (cluster mark : ℕ) → length (entryL
 line-few side pos cluster mark =
     let s = fields (listNumber side) (pos .0) cluster TAB in
     omega (arith, length-append (s ++ (mark ∷ [])) (LF ∷ []), length-append s (mark ∷ []), fields-few (listNumber side) (pos .0) cluster TAB)
-
-pub total-few : (c : Count) (score : ℕ) → length (totalLine c score) ≤ totalMost
-total-few c score =
-    let three = fields (c .matched) (c .unmatched) (c .undecided) TAB in
-    omega (
-      arith,
-      length-append (totalWord ++ three) (field score LF),
-      length-append totalWord three,
-      fields-few (c .matched) (c .unmatched) (c .undecided) TAB,
-      field-few score LF,
-    )

@@ -1,6 +1,6 @@
 -- Laws of the whole text.
 --     numbers-next                          the numbers of the next cluster's entries, and those behind them
---     text-marks, text-few                  more marks than entries; the most bytes that it has
+--     text-marks                            more marks than entries
 --     text-wrote                            the heading, and behind it the rest
 --     Printing                              the walk over the clusters behind k of them
 --     printing-begin, printing-fits, printing-more, printing-end, printing-all
@@ -25,8 +25,7 @@ use Rattle.clusters.specs.Merged.{mergedItems}
 use Rattle.clusters.proofs.CountLaws.{counts-marks}
 use Rattle.clusters.proofs.HeadsLaws.{passed-items}
 use Rattle.lines.proofs.WroteLaws.{Wrote, wrote-then, Left, left-begin, left-then}
-use Rattle.compare.specs.Printed.{heading, numbersFrom, entryLines, lineMost, totalLine, totalMost, printedText, textMost}
-use Rattle.compare.proofs.PrintedLaws.{total-few}
+use Rattle.compare.specs.Printed.{heading, numbersFrom, entryLines, lineMost, totalLine, totalMost, printedText}
 use Rattle.compare.proofs.LinesLaws.{lines-few, lines-split, lines-marks}
 use Rattle.compare.proofs.ReadLaws.{readable-passed}
 
@@ -40,18 +39,6 @@ pub text-marks : (plan : List Cluster) (is : List Item) (ms more : List ℕ) (sc
 text-marks plan is ms more score h =
     ap (λ (l : List ℕ). heading ++ l ++ totalLine (totals (countsOf is (ms ++ more))) score) (lines-marks (numbersFrom 0 plan) is ms more h)
     ∙ ap (λ (c : Counts). heading ++ entryLines (numbersFrom 0 plan) is ms ++ totalLine (totals c) score) (counts-marks is ms more h)
-
-pub text-few : (plan : List Cluster) (is : List Item) (ms : List ℕ) (score : ℕ) → length (numbersFrom 0 plan) ≤ mostEntries → length (printedText plan is ms score) ≤ textMost
-text-few plan is ms score h =
-    let lines = entryLines (numbersFrom 0 plan) is ms in
-    let total = totalLine (totals (countsOf is ms)) score in
-    omega (
-      arith,
-      length-append (heading ++ lines) total,
-      length-append heading lines,
-      lines-few (numbersFrom 0 plan) is ms,
-      total-few (totals (countsOf is ms)) score,
-    )
 
 -- The heading, and behind it the lines of the entries and the total line.
 pub text-wrote : (plan : List Cluster) (is : List Item) (ms : List ℕ) (score : ℕ) (out : List ℕ) (r : ℕ) (e : List ℕ) (q : ℕ) (f : List ℕ)

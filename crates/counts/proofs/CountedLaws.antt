@@ -3,7 +3,6 @@
 --     text-refused                    where it is refused, the text says so
 --     text-counts, text-few, text-accepted
 --                                     else both lists can be counted, the counts can be printed, and their line is what is printed
---     six-few, line-few, length-few   the most bytes that are printed
 --     counted-call                    the counts that are printed are those that the call `count` answers for the marks that `mark_all` leaves
 -- Assumes nothing.
 use mathlib.Core.List.{List}
@@ -12,7 +11,7 @@ use mathlib.Core.Path.{_≡_, sym, ap, _∙_}
 use Prim.Native.Nat.{ℕ, _+_, _≤_}
 use native.Mathlib.Omega.{arith}
 use lib.Dec.{ltb}
-use lib.ListN.{length, drop, length-append}
+use lib.ListN.{length, drop}
 use Rattle.card.specs.declared.all.AllMarked.{AllMarked}
 use Rattle.card.specs.declared.refusal.Refusal.{Refusal}
 use Rattle.card.specs.All.{allRefusal, allBytes}
@@ -33,63 +32,48 @@ use Rattle.clusters.specs.Marks.{clustersOf, allMarks}
 use Rattle.clusters.specs.Merged.{mergedItems}
 use Rattle.clusters.proofs.CountLaws.{counts-few, counts-marks}
 use Rattle.clusters.proofs.HeadsLaws.{ready-readable}
-use Rattle.files.specs.File.{chromName, basesOfFile}
-use Rattle.lines.specs.Lines.{largestNumber, fields, countsFields, refusedText}
-use Rattle.lines.proofs.FieldLaws.{fields-few}
+use Rattle.files.specs.File.{basesOfFile}
+use Rattle.lines.specs.Lines.{largestNumber, refusedText}
 use Rattle.told.specs.Files.{refusalOf, filesAnswered, filesMarks}
 use Rattle.told.proofs.FilesLaws.{Tells, files-tell, files-printable, accepted-files, files-answerable, files-marks, files-marked}
-use Rattle.told.proofs.ToldLaws.{told-few, numbers-refused, numbers-text}
-use Rattle.vcf.specs.Bytes.{LF, TAB}
-use Rattle.counts.specs.Counted.{countsLine, countsFor, countedText, countedMost}
+use Rattle.told.proofs.ToldLaws.{numbers-refused, numbers-text}
+use Rattle.counts.specs.Counted.{countsLine, countsFor, countedText}
 
-six-few : (a b c d e f : ℕ) → length (countsFields a b c d e f) ≤ countedMost
-six-few a b c d e f = omega (arith, length-append (fields a b c TAB) (fields d e f LF), fields-few a b c TAB, fields-few d e f LF)
-
-pub line-few : (c : Counts) → length (countsLine c) ≤ countedMost
-line-few c = six-few _ _ _ _ _ _
-
--- What is printed has at most so many bytes, said of a number that is that of its bytes.
-pub length-few : (file first second : List ℕ) (n : ℕ) → n ≡ length (countedText file first second) → n ≤ countedMost
-unfolding countedText
-length-few file first second n e =
-    let c = countsFor (basesOfFile file) first second in
-    omega (arith, e, told-few (refusalOf file first second) (countsLine c) countedMost (omega arith) (λ z. line-few c))
-
-module _ (file first second : List ℕ) (answer : AllMarked) (before marks : List ℕ) (long : length before ≡ leastRoom)
-    (answered : answer ≡ filesAnswered file first second before) (wrote : marks ≡ filesMarks file first second before) where
+module _ (file name first second : List ℕ) (answer : AllMarked) (before marks : List ℕ) (long : length before ≡ leastRoom)
+    (answered : answer ≡ filesAnswered file name first second before) (wrote : marks ≡ filesMarks file name first second before) where
   abbrev r : List ℕ
   r = basesOfFile file
 
-  tells : Tells answer (refusalOf file first second)
-  tells = rw answered (files-tell file first second before long)
+  tells : Tells answer (refusalOf file name first second)
+  tells = rw answered (files-tell file name first second before long)
 
   pub told-printable : (answer .number ≤ largestNumber) × (answer .list ≤ largestNumber) × (answer .line ≤ largestNumber)
-  told-printable = files-printable file first second before long answer tells
+  told-printable = files-printable file name first second before long answer tells
 
-  pub text-refused : answer .number ≢ 0 → countedText file first second ≡ refusedText (answer .number) (answer .list) (answer .line)
+  pub text-refused : answer .number ≢ 0 → countedText file name first second ≡ refusedText (answer .number) (answer .list) (answer .line)
   unfolding countedText
-  text-refused n = numbers-refused (answer .number) (answer .list) (answer .line) (refusalOf file first second) tells (countsLine (countsFor r first second)) n
+  text-refused n = numbers-refused (answer .number) (answer .list) (answer .line) (refusalOf file name first second) tells (countsLine (countsFor r first second)) n
 
   module _ (zero : answer .number ≡ 0) where
-    z : refusalOf file first second .number ≡ 0
+    z : refusalOf file name first second .number ≡ 0
     z = sym (tells .same-number) ∙ zero
 
     pub text-counts : Readable first second (startHeads first second) × (length (mergedItems first second) ≤ length marks) × (length (mergedItems first second) ≤ mostEntries)
     text-counts =
-        let a = files-answerable file first second z in
-        (ready-readable r first second (startHeads first second) (a .ready), omega (arith, ap length wrote, files-marked file first second before long z), a .entries)
+        let a = files-answerable file name first second z in
+        (ready-readable r first second (startHeads first second) (a .ready), omega (arith, ap length wrote, files-marked file name first second before long z), a .entries)
 
     pub text-few : (c : Counts) → c ≡ countsOf (mergedItems first second) marks → Few (c .first) × Few (c .second)
     text-few c e = rw e (counts-few (mergedItems first second) marks (text-counts .2))
 
-    pub text-accepted : (c : Counts) → c ≡ countsOf (mergedItems first second) marks → countsLine c ≡ countedText file first second
+    pub text-accepted : (c : Counts) → c ≡ countsOf (mergedItems first second) marks → countsLine c ≡ countedText file name first second
     unfolding countedText
     text-accepted c e =
         let own = allMarks r (clustersOf r first second) in
-        let accept = accepted-files file first second z in
-        let same = counts-marks (mergedItems first second) own (drop (0 + length own) before) (omega (arith, marks-all r chromName first second (accept .0) (accept .1))) in
-        ap countsLine (e ∙ ap (countsOf (mergedItems first second)) (wrote ∙ files-marks file first second before long z) ∙ same)
-        ∙ sym (numbers-text (answer .number) (answer .list) (answer .line) (refusalOf file first second) tells (countsLine (countsFor r first second)) zero)
+        let accept = accepted-files file name first second z in
+        let same = counts-marks (mergedItems first second) own (drop (0 + length own) before) (omega (arith, marks-all r name first second (accept .0) (accept .1))) in
+        ap countsLine (e ∙ ap (countsOf (mergedItems first second)) (wrote ∙ files-marks file name first second before long z) ∙ same)
+        ∙ sym (numbers-text (answer .number) (answer .list) (answer .line) (refusalOf file name first second) tells (countsLine (countsFor r first second)) zero)
 
 module _ (reference name first second : List ℕ) (plan : List Cluster) (marks : List ℕ) (z : allRefusal reference name first second (length plan) (length marks) .number ≡ 0) where
   -- the marks of all clusters, and the bytes that hold them

@@ -6,8 +6,8 @@ use mathlib.Core.Path.{sym, _∙_}
 use Prim.Native.Nat.{ℕ}
 use denote.Ref.{now}
 use Rattle.bases.proofs.Determines.{OneResult, OneLeft}
-use Rattle.counts.proofs.counted.count_text.Kinds as count-text-kinds
-use Rattle.counts.proofs.counted.count_text.Reads as count-text
+use Rattle.counts.proofs.counted.count_given.Kinds as count-given-kinds
+use Rattle.counts.proofs.counted.count_given.Reads as count-given
 use Rattle.counts.proofs.counted.put_counts.Kinds as put-counts-kinds
 use Rattle.counts.proofs.counted.put_counts.Reads as put-counts
 
@@ -17,8 +17,8 @@ put-counts-determines κs a z z′ e e′ p q = p .0 ∙ sym (q .0)
 pub put-counts-leaves : OneLeft 1 put-counts-kinds.ps put-counts-kinds.r put-counts.Post (List ℕ) (λ κs e. now (e .1 .0))
 put-counts-leaves κs a z z′ e e′ p q = p .1 ∙ sym (q .1)
 
-pub count-text-determines : OneResult 4 count-text-kinds.ps count-text-kinds.r count-text.Post
-count-text-determines κs a z z′ e e′ p q = p .0 ∙ sym (q .0)
+pub count-given-determines : OneResult 2 count-given-kinds.ps count-given-kinds.r count-given.Post
+count-given-determines κs a z z′ e e′ p q = p .0 ∙ sym (q .0)
 
-pub count-text-leaves : OneLeft 4 count-text-kinds.ps count-text-kinds.r count-text.Post (List ℕ) (λ κs e. now (e .1 .1 .1 .0))
-count-text-leaves κs a z z′ e e′ p q = p .1 ∙ sym (q .1)
+pub count-given-leaves : OneLeft 2 count-given-kinds.ps count-given-kinds.r count-given.Post (List ℕ) (λ κs e. now (e .1 .1 .0))
+count-given-leaves κs a z z′ e e′ p q = p .1 ∙ sym (q .1)

@@ -18,6 +18,7 @@ use Rattle.donors.specs.Apart.{chain?}
 use Rattle.donors.specs.Donor.{donorFrom}
 use Rattle.donors.specs.Items.{over}
 use Rattle.donors.specs.Rules.{edits}
+use Rattle.files.specs.File.{chromName}
 use Rattle.matching.specs.Best.{score}
 use Rattle.matching.specs.BestOf.{every?, allowed?, bestOf}
 use Rattle.matching.specs.Cut.{join}
@@ -36,7 +37,7 @@ use Rattle.counts.specs.Counted.{countedText}
 
 -- What is printed for three files, and what it should be.
 abbrev Prints : String → List ℕ → List ℕ → String → Type 0
-Prints file first second printed = countedText (ascii file) first second ≡ ascii printed
+Prints file first second printed = countedText (ascii file) chromName first second ≡ ascii printed
 
 pub examples :
     Prints "TGCCGT\n" (text (hom "2" "GCCG" "CCGA" ∷ [])) (text (hom "1" "TG" "T" ∷ hom "5" "G" "GA" ∷ [])) "1\t0\t0\t2\t0\t0\n"

@@ -1,5 +1,5 @@
--- What counts prints for the bytes of a run's three files, reference.txt, first.vcf and second.vcf: one line with the six counts of the
--- run's marks. On refusal the only line is that of the refusal.
+-- What counts prints for the bytes of a run's three files, reference.txt, first.vcf and second.vcf, and the name: one line with the six
+-- counts of the run's marks. On refusal the only line is that of the refusal.
 -- Assumes nothing: these are definitions.
 use mathlib.Core.List.{List}
 use Prim.Native.Nat.{ℕ, _*_}
@@ -7,7 +7,9 @@ use Rattle.clusters.specs.declared.count.Counts.{Counts}
 use Rattle.clusters.specs.Counts.{countsOf}
 use Rattle.clusters.specs.Marks.{clustersOf, allMarks}
 use Rattle.clusters.specs.Merged.{mergedItems}
+use Rattle.files.specs.declared.given.Given.{Given}
 use Rattle.files.specs.File.{basesOfFile}
+use Rattle.files.specs.Given.{nameIn, fileIn, firstIn, secondIn}
 use Rattle.lines.specs.Lines.{countsFields, fieldsMost}
 use Rattle.told.specs.Files.{refusalOf}
 use Rattle.told.specs.Told.{toldText}
@@ -22,8 +24,12 @@ countsLine c =
 abbrev pub countsFor : List ℕ → List ℕ → List ℕ → Counts
 countsFor reference first second = countsOf (mergedItems first second) (allMarks reference (clustersOf reference first second))
 
-unfoldable pub countedText : List ℕ → List ℕ → List ℕ → List ℕ
-countedText file first second = toldText (refusalOf file first second) (countsLine (countsFor (basesOfFile file) first second))
+unfoldable pub countedText : List ℕ → List ℕ → List ℕ → List ℕ → List ℕ
+countedText file name first second = toldText (refusalOf file name first second) (countsLine (countsFor (basesOfFile file) first second))
+
+-- The same for what the program is given.
+abbrev pub countedIn : List ℕ → Given → List ℕ
+countedIn room g = countedText (fileIn room g) (nameIn room g) (firstIn room g) (secondIn room g)
 
 -- The most bytes that it has.
 abbrev pub countedMost : ℕ

@@ -1,14 +1,16 @@
-// What counts prints for the bytes of its three files. Each function says where what it wrote ends, and leaves every other byte of the room
-// as it was.
+// What counts prints for the name and the bytes of its three files. Each function says where what it wrote ends, and leaves every other
+// byte of the room as it was.
 ghost use mathlib.Core.Path.{_≡_};
 ghost use Prim.Native.Nat.{_≤_};
 ghost use lib.ListN.{length};
 ghost use Rattle.bases.specs.Put.{put};
 ghost use Rattle.clusters.specs.Counts.{Few};
-ghost use Rattle.counts.specs.Counted.{countsLine, countedText, countedMost};
+ghost use Rattle.files.specs.Given.{Laid};
+ghost use Rattle.counts.specs.Counted.{countsLine, countedText, countedIn, countedMost};
 use card::lists::LEAST;
 use clusters::count::Counts;
 use clusters::count::count_lists;
+use files::given::Given;
 use lines::field::FIELDS_MOST;
 use lines::field::put_fields;
 use lines::refused::refused_text;
@@ -37,16 +39,17 @@ pub fn put_counts(counts: Counts, out: &mut [u8]) -> usize
     put_fields(two.matched, two.unmatched, two.undecided, LF, out, next)
 }
 
-// Writes what is printed for a reference file and two lists at the start of the room, and says how many bytes that is.
-pub fn count_text(file: &[u8], first: &[u8], second: &[u8], out: &mut [u8]) -> usize
+// Writes what is printed for a reference file, a name and two lists at the start of the room, and says how many bytes that is.
+fn count_text(file: &[u8], name: &[u8], first: &[u8], second: &[u8], out: &mut [u8]) -> usize
     requires { ⌜ countedMost ≤ length (now out) ⌝ }
-    ensures { λ r. ⌜
-        (r ≡ length (countedText (now (file .entry)) (now (first .entry)) (now (second .entry))))
-        × (now (out .exit) ≡ put (now (out .entry)) 0 (countedText (now (file .entry)) (now (first .entry)) (now (second .entry))))
+    ensures { λ r. let text = countedText (now (file .entry)) (now (name .entry)) (now (first .entry)) (now (second .entry)) in ⌜
+        (r ≡ length text)
+        × (now (out .exit) ≡ put (now (out .entry)) 0 text)
+        × (r ≤ length (now (out .exit)))
         ⌝ }
 {
     let mut marks = [0u8; LEAST];
-    let marked = mark_files(file, first, second, &mut marks);
+    let marked = mark_files(file, name, first, second, &mut marks);
     let answer = marked.answer;
     if answer.number != 0 {
         return refused_text(
@@ -57,4 +60,29 @@ pub fn count_text(file: &[u8], first: &[u8], second: &[u8], out: &mut [u8]) -> u
         );
     }
     put_counts(count_lists(first, second, &marks), out)
+}
+
+// The same for what the program is given.
+pub fn count_given(room: &[u8], given: Given, out: &mut [u8]) -> usize
+    requires { ⌜
+        Laid given (length (now room))
+        × (countedMost ≤ length (now out))
+        ⌝ }
+    ensures { λ r. ⌜
+        (r ≡ length (countedIn (now (room .entry)) given))
+        × (now (out .exit) ≡ put (now (out .entry)) 0 (countedIn (now (room .entry)) given))
+        × (r ≤ length (now (out .exit)))
+        ⌝ }
+{
+    let name = given.name;
+    let reference = given.reference;
+    let first = given.first;
+    let second = given.second;
+    count_text(
+        &room[name..reference],
+        &room[0..name],
+        &room[reference..first],
+        &room[first..second],
+        out,
+    )
 }

@@ -1,7 +1,7 @@
--- Laws of the numbers and the refused line that are printed.
+-- Laws of the numbers that are printed.
 --     number-large                   a number from 100 on, by the digits before its last two, and these
 --     number-pos                     a POS is written as in a list
---     decimal-few, number-few, field-few, fields-few, refused-few
+--     decimal-few, number-few, field-few, fields-few
 --                                    the most bytes that they have
 -- Assumes nothing.
 use mathlib.Core.Bool.{Bool, true, false}
@@ -14,9 +14,9 @@ use lib.Dec.{ltb}
 use lib.ListN.{length, length-append}
 use Rattle.bases.specs.Pick.{pick}
 use Rattle.normal.specs.Written.{digitsOf, decimal}
-use Rattle.vcf.specs.Bytes.{LF, TAB}
+use Rattle.vcf.specs.Bytes.{TAB}
 use Rattle.vcf.specs.Pos.{largestPos}
-use Rattle.lines.specs.Lines.{mostDigits, number, field, fieldMost, fields, fieldsMost, refusedWord, refusedText, refusedMost}
+use Rattle.lines.specs.Lines.{mostDigits, number, field, fieldMost, fields, fieldsMost}
 
 digits-more : (k n : ℕ) → n < 10 → digitsOf (suc k) n ≡ (48 + n) ∷ []
 unfolding digitsOf
@@ -82,6 +82,3 @@ fields-few a b c end =
       field-few b TAB,
       field-few c end,
     )
-
-pub refused-few : (n list line : ℕ) → length (refusedText n list line) ≤ refusedMost
-refused-few n list line = omega (arith, length-append refusedWord (fields n list line LF), fields-few n list line LF)

@@ -1,15 +1,16 @@
 -- Bytes written one behind another.
 --     Wrote                             bytes s written into d from `at` on gave e, and they end at r
 --     wrote-then                        more bytes behind them
+--     wrote-text                        what was written at the start of room, said of an equal text, ends in the room
 --     Left                              bytes are left to write into `out` from `at` on: with them it is `goal`, and they end at `end`; it has `size` bytes
 --     left-begin, left-then, left-end, left-last
 --                                       before the first is written; behind some of them; behind the last; behind the last ones together
 -- Assumes nothing.
 use mathlib.Core.List.{List, [], _++_}
-use mathlib.Core.Path.{_≡_, refl, sym, _∙_}
+use mathlib.Core.Path.{_≡_, refl, sym, ap, _∙_}
 use Prim.Native.Nat.{ℕ, _+_, _≤_}
 use native.Mathlib.Omega.{arith}
-use lib.ListN.{length, length-append}
+use lib.ListN.{length, take, drop, length-append}
 use Rattle.bases.proofs.PutLaws.{put-put, put-none, put-fits, put-more}
 use Rattle.bases.specs.Put.{put}
 
@@ -19,6 +20,14 @@ Wrote d at s r e = (r ≡ at + length s) × (e ≡ put d at s)
 pub wrote-then : (d : List ℕ) (at : ℕ) (s : List ℕ) (r : ℕ) (e u : List ℕ) (q : ℕ) (f : List ℕ)
     → at ≤ length d → Wrote d at s r e → Wrote e r u q f → Wrote d at (s ++ u) q f
 wrote-then d at s r e u q f h w v = (omega (arith, length-append s u), put-more d at s e r u f h (w .0) (w .1) (v .1))
+
+pub wrote-text : (d s t : List ℕ) (r : ℕ) (e : List ℕ) → (r ≡ length s) × (e ≡ put d 0 s) → s ≡ t → (r ≡ length t) × (e ≡ put d 0 t) × (r ≤ length e)
+wrote-text d s t r e w same =
+    let more = drop (0 + length s) d in (
+      w .0 ∙ ap length same,
+      w .1 ∙ ap (put d 0) same,
+      omega (arith, w .0, ap length (w .1), length-append (take 0 d) (s ++ more), length-append s more),
+    )
 
 pub record Left (goal : List ℕ) (end size : ℕ) (out : List ℕ) (at : ℕ) (rest : List ℕ) : Type 0 where
   pub then : put out at rest ≡ goal

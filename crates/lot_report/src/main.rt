@@ -8,13 +8,13 @@ mod share;
 mod table;
 
 use files::file::FILE_ROOM;
+use files::file::print;
 use files::file::read_file;
-use libc::STDOUT_FILENO;
 
 fn main() {
     let mut text = [0u8; FILE_ROOM];
     let mut out = [0u8; table::TABLE_MOST];
     let n = read_file(b"runs.tsv", &mut text);
     let end = report::report_text(&text[..n], &mut out);
-    io::write_all(STDOUT_FILENO, &out[..end]);
+    print(&out, end);
 }

@@ -51,6 +51,7 @@ pub fn report_text(text: &[u8], out: &mut [u8]) -> usize
     ensures { λ r. ⌜
         (r ≡ length (reportText (now (text .entry))))
         × (now (out .exit) ≡ put (now (out .entry)) 0 (reportText (now (text .entry))))
+        × (r ≤ length (now (out .exit)))
         ⌝ }
 {
     if LONGEST_TEXT < text.len() {

@@ -2,40 +2,33 @@
 --     normalised-open                         the reference file does not end in LF
 --     answer-printable, text-refused          else, where the call `normal` is refused: its three numbers can be printed, and they are what is printed
 --     text-given                              else what it wrote is
---     length-few                              what is printed is no longer than a list
 -- Assumes nothing.
 use mathlib.Core.Bool.{Bool, true, false}
 use mathlib.Core.List.{List}
 use mathlib.Core.Logic.{_≢_}
 use mathlib.Core.Path.{_≡_, refl, sym, ap, _∙_}
 use Prim.Native.Nat.{ℕ, _≤_}
-use native.Mathlib.Omega.{arith}
 use borrow.Author.Tests.{eqb-true, le-ltb}
 use lib.Dec.{eqb}
 use lib.ListN.{length}
 use Rattle.bases.specs.Pick.{pick}
 use Rattle.bases.specs.Put.{put}
-use Rattle.bases.proofs.TestLaws.{of-true}
 use Rattle.card.specs.declared.answer.Answer.{Answer}
 use Rattle.card.specs.declared.refusal.Refusal.{Refusal}
 use Rattle.card.specs.Answer.{answer, refusedAnswer, answerOf}
 use Rattle.card.specs.Normal.{normalRefusal, written, normalAfter}
 use Rattle.card.specs.Refusal.{listChecks}
-use Rattle.card.proofs.ListsLaws.{list-read}
 use Rattle.card.proofs.NormalLaws.{normal-refused, normal-given}
-use Rattle.files.specs.File.{chromName, endsInLf?, basesOfFile}
+use Rattle.files.specs.File.{endsInLf?, basesOfFile}
 use Rattle.lines.specs.Lines.{largestNumber, refusedText}
 use Rattle.normal.specs.Written.{writtenText}
-use Rattle.normal.proofs.WrittenList.{written-not-longer}
 use Rattle.told.proofs.PrintableLaws.{list-printable}
-use Rattle.told.proofs.ToldLaws.{file-open, file-past, file-ends, told-text, told-few, Numbers, numbers-printable, numbers-refused}
-use Rattle.vcf.specs.List.{longestText}
-use Rattle.vcf.proofs.JudgeLaws.{accepted-zero, text-fits}
+use Rattle.told.proofs.ToldLaws.{file-open, file-past, told-text, Numbers, numbers-printable, numbers-refused}
 use Rattle.normalise.specs.Normalised.{listRefusal, normalisedText}
 
-pub normalised-open : (file text : List ℕ) → endsInLf? file ≡ false → normalisedText file text ≡ refusedText 1 0 0
+pub normalised-open : (file name text : List ℕ) → endsInLf? file ≡ false → normalisedText file name text ≡ refusedText 1 0 0
 unfolding normalisedText
-normalised-open file text e = rw (file-open file (listChecks (basesOfFile file) chromName text false) e)
+normalised-open file name text e = rw (file-open file (listChecks (basesOfFile file) name text false) e)
 
 -- An answer has the number of its refusal.
 answer-number : (r : Refusal) (v : ℕ) → answerOf r v .number ≡ r .number
@@ -45,26 +38,26 @@ answer-number r v = go (eqb (r .number) 0) refl
     go true e = sym (eqb-true (r .number) 0 e)
     go false e = refl
 
-module _ (file text out : List ℕ) (ends : endsInLf? file ≡ true) (roomy : length text ≤ length out) (a : Answer)
-    (answered : a ≡ written (basesOfFile file) chromName text (length out)) where
+module _ (file name text out : List ℕ) (ends : endsInLf? file ≡ true) (roomy : length text ≤ length out) (a : Answer)
+    (answered : a ≡ written (basesOfFile file) name text (length out)) where
   abbrev reference : List ℕ
   reference = basesOfFile file
 
   abbrev r : Refusal
-  r = normalRefusal reference chromName text (length out)
+  r = normalRefusal reference name text (length out)
 
   -- the refusal is that of the call
-  same : r ≡ listRefusal file text
-  same = rw (le-ltb (length out) (length text) roomy) (sym (file-past file (listChecks reference chromName text false) ends))
+  same : r ≡ listRefusal file name text
+  same = rw (le-ltb (length out) (length text) roomy) (sym (file-past file (listChecks reference name text false) ends))
 
   number-same : a .number ≡ r .number
   number-same = ap (λ (x : Answer). x .number) answered ∙ answer-number r (length (writtenText reference text))
 
   module _ (n : a .number ≢ 0) where
-    refused : (written reference chromName text (length out) ≡ refusedAnswer r) × (normalAfter reference chromName text out ≡ out)
-    refused = normal-refused reference chromName text out (rw number-same at n)
+    refused : (written reference name text (length out) ≡ refusedAnswer r) × (normalAfter reference name text out ≡ out)
+    refused = normal-refused reference name text out (rw number-same at n)
 
-    tells : Numbers (a .number) (a .list) (a .line) (listRefusal file text)
+    tells : Numbers (a .number) (a .list) (a .line) (listRefusal file name text)
     tells =
         let e = answered ∙ refused .0 in
         record {
@@ -74,35 +67,17 @@ module _ (file text out : List ℕ) (ends : endsInLf? file ≡ true) (roomy : le
         }
 
     pub answer-printable : (a .number ≤ largestNumber) × (a .list ≤ largestNumber) × (a .line ≤ largestNumber)
-    answer-printable = numbers-printable (a .number) (a .list) (a .line) (listRefusal file text) tells (list-printable file reference chromName text false)
+    answer-printable = numbers-printable (a .number) (a .list) (a .line) (listRefusal file name text) tells (list-printable file reference name text false)
 
-    pub text-refused : (normalisedText file text ≡ refusedText (a .number) (a .list) (a .line)) × (normalAfter (basesOfFile file) chromName text out ≡ out)
+    pub text-refused : (normalisedText file name text ≡ refusedText (a .number) (a .list) (a .line)) × (normalAfter (basesOfFile file) name text out ≡ out)
     unfolding normalisedText
-    text-refused = (numbers-refused (a .number) (a .list) (a .line) (listRefusal file text) tells (writtenText reference text) n, refused .1)
+    text-refused = (numbers-refused (a .number) (a .list) (a .line) (listRefusal file name text) tells (writtenText reference text) n, refused .1)
 
   pub text-given : a .number ≡ 0
-      → (a .value ≡ length (normalisedText file text)) × (normalAfter (basesOfFile file) chromName text out ≡ put out 0 (normalisedText file text))
+      → (a .value ≡ length (normalisedText file name text)) × (normalAfter (basesOfFile file) name text out ≡ put out 0 (normalisedText file name text))
   unfolding normalisedText
   text-given z =
       let zero : r .number ≡ 0 = sym number-same ∙ z in
-      let given = normal-given reference chromName text out zero in
-      let told = told-text (listRefusal file text) (writtenText reference text) (sym (ap (λ (x : Refusal). x .number) same) ∙ zero) in
+      let given = normal-given reference name text out zero in
+      let told = told-text (listRefusal file name text) (writtenText reference text) (sym (ap (λ (x : Refusal). x .number) same) ∙ zero) in
       (ap (λ (x : Answer). x .value) (answered ∙ given .0) ∙ ap length (sym told), given .1 ∙ ap (put out 0) (sym told))
-
-normalised-few : (file text : List ℕ) → length (normalisedText file text) ≤ longestText
-unfolding normalisedText
-normalised-few file text = told-few (listRefusal file text) (writtenText (basesOfFile file) text) longestText (omega arith) few
-  where
-    few : listRefusal file text .number ≡ 0 → length (writtenText (basesOfFile file) text) ≤ longestText
-    few z =
-        let checks = listChecks (basesOfFile file) chromName text false in
-        let read = list-read (basesOfFile file) chromName text false (sym (ap (λ (x : Refusal). x .number) (file-past file checks (file-ends file checks z))) ∙ z) in
-        omega (
-          arith,
-          written-not-longer (basesOfFile file) chromName (of-true (read .right)) text (read .accepted),
-          text-fits text (accepted-zero (basesOfFile file) chromName text (read .accepted) .fits),
-        )
-
--- the same of a number that is that of its bytes
-pub length-few : (file text : List ℕ) (n : ℕ) → n ≡ length (normalisedText file text) → n ≤ longestText
-length-few file text n e = omega (arith, normalised-few file text)

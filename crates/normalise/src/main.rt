@@ -1,17 +1,16 @@
-// The program normalise: reads reference.txt and first.vcf, and writes the list in normal form, or the line of its refusal. The contracts
-// cite specs/.
+// The program normalise: reads reference.txt and first.vcf, and writes the list in normal form, or the line of its refusal. Its argument is
+// the name. The contracts cite specs/.
 mod list;
 
 use files::file::FILE_ROOM;
-use files::file::read_file;
-use libc::STDOUT_FILENO;
+use files::file::print;
+use files::given::LIST_ROOM;
+use files::given::read_list;
 
 fn main() {
-    let mut reference = [0u8; FILE_ROOM];
-    let mut text = [0u8; FILE_ROOM];
+    let mut room = [0u8; LIST_ROOM];
     let mut out = [0u8; FILE_ROOM];
-    let n = read_file(b"reference.txt", &mut reference);
-    let m = read_file(b"first.vcf", &mut text);
-    let end = list::normalise_text(&reference[..n], &text[..m], &mut out);
-    io::write_all(STDOUT_FILENO, &out[..end]);
+    let given = read_list(&mut room);
+    let end = list::normalise_given(&room, given, &mut out);
+    print(&out, end);
 }

@@ -31,7 +31,7 @@ use Rattle.clusters.specs.declared.plan.Cluster.{Cluster}
 use Rattle.clusters.specs.Marks.{clustersOf, allMarks, totalScore}
 use Rattle.clusters.specs.Merged.{mergedItems}
 use Rattle.clusters.specs.Plan.{planOf}
-use Rattle.files.specs.File.{chromName, endsInLf?, basesOfFile}
+use Rattle.files.specs.File.{endsInLf?, basesOfFile}
 use Rattle.lines.specs.Lines.{largestNumber}
 use Rattle.vcf.specs.List.{judgeText}
 use Rattle.told.specs.Files.{refusalOf, filesAnswered, filesPlan, filesMarks}
@@ -41,93 +41,94 @@ use Rattle.told.proofs.ToldLaws.{file-open, file-past, file-ends, Numbe
 empty-long : length emptyPlan ≡ leastRoom
 empty-long = length-replicate {A = Cluster} leastRoom (record { first = 0; count = 0 })
 
-module _ (file first second marks : List ℕ) where
+module _ (file name first second marks : List ℕ) where
   pub open-files : endsInLf? file ≡ false
-      → (filesAnswered file first second marks ≡ allMarked (answer 1 0 0 0) 0 0) × (filesPlan file first second marks ≡ emptyPlan) × (filesMarks file first second marks ≡ marks)
+      → (filesAnswered file name first second marks ≡ allMarked (answer 1 0 0 0) 0 0) × (filesPlan file name first second marks ≡ emptyPlan) × (filesMarks file name first second marks ≡ marks)
   open-files e = (rw e, rw e, rw e)
 
   pub closed-files : endsInLf? file ≡ true
-      → (filesAnswered file first second marks ≡ allAnswered (basesOfFile file) chromName first second leastRoom (length marks))
-      × (filesPlan file first second marks ≡ allPlan (basesOfFile file) chromName first second emptyPlan marks)
-      × (filesMarks file first second marks ≡ allBytes (basesOfFile file) chromName first second emptyPlan marks)
+      → (filesAnswered file name first second marks ≡ allAnswered (basesOfFile file) name first second leastRoom (length marks))
+      × (filesPlan file name first second marks ≡ allPlan (basesOfFile file) name first second emptyPlan marks)
+      × (filesMarks file name first second marks ≡ allBytes (basesOfFile file) name first second emptyPlan marks)
   closed-files e = (rw e, rw e, rw e)
 
 -- The three numbers of an answer are those of a refusal.
 abbrev pub Tells : AllMarked → Refusal → Type 0
 Tells a r = Numbers (a .number) (a .list) (a .line) r
 
-module _ (file first second : List ℕ) (z : refusalOf file first second .number ≡ 0) where
+module _ (file name first second : List ℕ) (z : refusalOf file name first second .number ≡ 0) where
   -- the refusal of the call on the bases of the file
-  call-zero : firstRefusal (listsChecks (basesOfFile file) chromName first second false) .number ≡ 0
+  call-zero : firstRefusal (listsChecks (basesOfFile file) name first second false) .number ≡ 0
   call-zero =
-      let checks = listsChecks (basesOfFile file) chromName first second false in
+      let checks = listsChecks (basesOfFile file) name first second false in
       sym (ap (λ (x : Refusal). x .number) (file-past file checks (file-ends file checks z))) ∙ z
 
-  pub accepted-files : (judgeText (basesOfFile file) chromName first .number ≡ 0) × (judgeText (basesOfFile file) chromName second .number ≡ 0)
-  accepted-files = let read = lists-read (basesOfFile file) chromName first false second call-zero in (read .0 .accepted, read .1)
+  pub accepted-files : (judgeText (basesOfFile file) name first .number ≡ 0) × (judgeText (basesOfFile file) name second .number ≡ 0)
+  accepted-files = let read = lists-read (basesOfFile file) name first false second call-zero in (read .0 .accepted, read .1)
 
   pub files-answerable : Answerable (basesOfFile file) first second
-  files-answerable = lists-answerable (basesOfFile file) chromName first second false call-zero .0
+  files-answerable = lists-answerable (basesOfFile file) name first second false call-zero .0
 
-module _ (file first second before : List ℕ) (long : length before ≡ leastRoom) where
+module _ (file name first second before : List ℕ) (long : length before ≡ leastRoom) where
   abbrev r : List ℕ
   r = basesOfFile file
 
   abbrev called : Refusal
-  called = allRefusal r chromName first second leastRoom (length before)
+  called = allRefusal r name first second leastRoom (length before)
 
   -- where the file ends in LF, the refusal is that of the call
-  same : endsInLf? file ≡ true → called ≡ refusalOf file first second
-  same e = rw long (sym (file-past file (listsChecks r chromName first second false) e))
+  same : endsInLf? file ≡ true → called ≡ refusalOf file name first second
+  same e = rw long (sym (file-past file (listsChecks r name first second false) e))
 
   -- the answer's three numbers, whether it is a refusal or not
   three : (t : Bool) (a : Answer) (n s : ℕ) (q : Refusal) → a ≡ refusedAnswer q → Tells (pick t (allMarked a n s) (allMarked a 0 0)) q
   three true a n s q e = record { same-number = ap (λ (x : Answer). x .number) e; same-list = ap (λ (x : Answer). x .list) e; same-line = ap (λ (x : Answer). x .line) e }
   three false a n s q e = record { same-number = ap (λ (x : Answer). x .number) e; same-list = ap (λ (x : Answer). x .list) e; same-line = ap (λ (x : Answer). x .line) e }
 
-  pub files-tell : Tells (filesAnswered file first second before) (refusalOf file first second)
+  pub files-tell : Tells (filesAnswered file name first second before) (refusalOf file name first second)
   files-tell = by-end (endsInLf? file) refl
     where
-      by-end : (t : Bool) → endsInLf? file ≡ t → Tells (filesAnswered file first second before) (refusalOf file first second)
+      by-end : (t : Bool) → endsInLf? file ≡ t → Tells (filesAnswered file name first second before) (refusalOf file name first second)
       by-end true e =
-          rw (closed-files file first second before e .0)
-          (three (eqb (called .number) 0) (refusedAnswer called) (length (planOf r first second)) (totalScore r (clustersOf r first second)) (refusalOf file first second) (ap refusedAnswer (same e)))
+          rw (closed-files file name first second before e .0)
+          (three (eqb (called .number) 0) (refusedAnswer called) (length (planOf r first second)) (totalScore r (clustersOf r first second)) (refusalOf file name first second)
+          (ap refusedAnswer (same e)))
       by-end false e =
-          let q = file-open file (listsChecks r chromName first second false) e in
-          rw (open-files file first second before e .0, q) (record { same-number = refl; same-list = refl; same-line = refl })
+          let q = file-open file (listsChecks r name first second false) e in
+          rw (open-files file name first second before e .0, q) (record { same-number = refl; same-list = refl; same-line = refl })
 
-  pub files-printable : (a : AllMarked) → Tells a (refusalOf file first second) → (a .number ≤ largestNumber) × (a .list ≤ largestNumber) × (a .line ≤ largestNumber)
-  files-printable a t = numbers-printable (a .number) (a .list) (a .line) (refusalOf file first second) t (lists-printable file r chromName first false second)
+  pub files-printable : (a : AllMarked) → Tells a (refusalOf file name first second) → (a .number ≤ largestNumber) × (a .list ≤ largestNumber) × (a .line ≤ largestNumber)
+  files-printable a t = numbers-printable (a .number) (a .list) (a .line) (refusalOf file name first second) t (lists-printable file r name first false second)
 
-  module _ (z : refusalOf file first second .number ≡ 0) where
+  module _ (z : refusalOf file name first second .number ≡ 0) where
     ends : endsInLf? file ≡ true
-    ends = file-ends file (listsChecks r chromName first second false) z
+    ends = file-ends file (listsChecks r name first second false) z
 
     none : eqb (called .number) 0 ≡ true
     none = eq-eqb _ 0 (ap (λ (x : Refusal). x .number) (same ends) ∙ z)
 
-    pub files-clusters : filesAnswered file first second before .clusters ≡ length (planOf (basesOfFile file) first second)
-    files-clusters = ap (λ (a : AllMarked). a .clusters) (closed-files file first second before ends .0) ∙ rw none
+    pub files-clusters : filesAnswered file name first second before .clusters ≡ length (planOf (basesOfFile file) first second)
+    files-clusters = ap (λ (a : AllMarked). a .clusters) (closed-files file name first second before ends .0) ∙ rw none
 
-    pub files-score : filesAnswered file first second before .score ≡ totalScore (basesOfFile file) (clustersOf (basesOfFile file) first second)
-    files-score = ap (λ (a : AllMarked). a .score) (closed-files file first second before ends .0) ∙ rw none
+    pub files-score : filesAnswered file name first second before .score ≡ totalScore (basesOfFile file) (clustersOf (basesOfFile file) first second)
+    files-score = ap (λ (a : AllMarked). a .score) (closed-files file name first second before ends .0) ∙ rw none
 
-    pub files-plan : take (filesAnswered file first second before .clusters) (filesPlan file first second before) ≡ planOf (basesOfFile file) first second
+    pub files-plan : take (filesAnswered file name first second before .clusters) (filesPlan file name first second before) ≡ planOf (basesOfFile file) first second
     files-plan =
-        let wrote : filesPlan file first second before ≡ put emptyPlan 0 (planOf r first second) = closed-files file first second before ends .1 ∙ rw (empty-long, none) in
+        let wrote : filesPlan file name first second before ≡ put emptyPlan 0 (planOf r first second) = closed-files file name first second before ends .1 ∙ rw (empty-long, none) in
         rw (files-clusters, wrote) (take-append-seam (planOf r first second) (drop (0 + length (planOf r first second)) emptyPlan))
 
-    pub files-marks : filesMarks file first second before
+    pub files-marks : filesMarks file name first second before
         ≡ allMarks (basesOfFile file) (clustersOf (basesOfFile file) first second) ++ drop (0 + length (allMarks (basesOfFile file) (clustersOf (basesOfFile file) first second))) before
-    files-marks = closed-files file first second before ends .2 ∙ rw (empty-long, none)
+    files-marks = closed-files file name first second before ends .2 ∙ rw (empty-long, none)
 
-    pub files-marked : length (mergedItems first second) ≤ length (filesMarks file first second before)
+    pub files-marked : length (mergedItems first second) ≤ length (filesMarks file name first second before)
     files-marked =
         let own = allMarks r (clustersOf r first second) in
-        let accepted = accepted-files file first second z in
+        let accepted = accepted-files file name first second z in
         omega (
           arith,
           ap length files-marks,
           length-append own (drop (0 + length own) before),
-          marks-all r chromName first second (accepted .0) (accepted .1),
+          marks-all r name first second (accepted .0) (accepted .1),
         )

@@ -2,7 +2,6 @@
 --     file-open, file-past, file-ends
 --                                the first refusal, by whether the reference file ends in LF
 --     told-refused, told-text    its line; else the text
---     told-few                   the most bytes that are told
 --     Numbers                    three numbers are those of a refusal
 --     numbers-printable, numbers-refused, numbers-text
 --                                they can be printed; what is told, by them
@@ -13,15 +12,12 @@ use mathlib.Core.Logic.{_≢_}
 use mathlib.Core.Path.{_≡_, refl, sym, ap, _∙_}
 use Prim.Native.Nat.{ℕ, _≤_}
 use native.Mathlib.Omega.{arith}
-use borrow.Author.Tests.{eq-eqb, ne-eqb, eqb-true, eqb-false}
-use lib.Dec.{eqb}
-use lib.ListN.{length}
+use borrow.Author.Tests.{eq-eqb, ne-eqb}
 use Rattle.card.specs.declared.refusal.Refusal.{Refusal}
 use Rattle.card.specs.Refusal.{Check, refusal, firstRefusal}
 use Rattle.card.proofs.RefusalLaws.{first-holds, first-not}
 use Rattle.files.specs.File.{endsInLf?}
-use Rattle.lines.specs.Lines.{largestNumber, refusedText, refusedMost}
-use Rattle.lines.proofs.FieldLaws.{refused-few}
+use Rattle.lines.specs.Lines.{largestNumber, refusedText}
 use Rattle.told.specs.Told.{fileCheck, toldText}
 use Rattle.told.proofs.PrintableLaws.{Printable}
 
@@ -45,13 +41,6 @@ module _ (r : Refusal) (text : List ℕ) where
 
   pub told-text : r .number ≡ 0 → toldText r text ≡ text
   told-text z = rw (eq-eqb (r .number) 0 z)
-
-  pub told-few : (most : ℕ) → refusedMost ≤ most → (r .number ≡ 0 → length text ≤ most) → length (toldText r text) ≤ most
-  told-few most h few = go (eqb (r .number) 0) refl
-    where
-      go : (t : Bool) → eqb (r .number) 0 ≡ t → length (toldText r text) ≤ most
-      go true e = let z = eqb-true (r .number) 0 e in omega (arith, ap length (told-text z), few z)
-      go false e = omega (arith, ap length (told-refused (eqb-false (r .number) 0 e)), refused-few (r .number) (r .list) (r .line))
 
 pub record Numbers (number list line : ℕ) (r : Refusal) : Type 0 where
   pub same-number : number ≡ r .number

@@ -9,11 +9,18 @@ use clusters::plan::Cluster;
 use files::file::ends_in_lf;
 
 // Marks two lists on the bases of a reference file, as `marked_lists` does; a file that does not end in LF is refused with 1.
-pub fn mark_files(file: &[u8], first: &[u8], second: &[u8], marks: &mut [u8]) -> MarkedLists
+pub fn mark_files(
+    file: &[u8],
+    name: &[u8],
+    first: &[u8],
+    second: &[u8],
+    marks: &mut [u8],
+) -> MarkedLists
     ensures { λ r. ⌜
-        (r .answer ≡ filesAnswered (now (file .entry)) (now (first .entry)) (now (second .entry)) (now (marks .entry)))
-        × (r .plan ≡ filesPlan (now (file .entry)) (now (first .entry)) (now (second .entry)) (now (marks .entry)))
-        × (now (marks .exit) ≡ filesMarks (now (file .entry)) (now (first .entry)) (now (second .entry)) (now (marks .entry)))
+        (r .answer ≡ filesAnswered (now (file .entry)) (now (name .entry)) (now (first .entry)) (now (second .entry)) (now (marks .entry)))
+        × (r .plan ≡ filesPlan (now (file .entry)) (now (name .entry)) (now (first .entry)) (now (second .entry)) (now (marks .entry)))
+        × (now (marks .exit)
+        ≡ filesMarks (now (file .entry)) (now (name .entry)) (now (first .entry)) (now (second .entry)) (now (marks .entry)))
         ⌝ }
 {
     if !ends_in_lf(file) {
@@ -28,5 +35,5 @@ pub fn mark_files(file: &[u8], first: &[u8], second: &[u8], marks: &mut [u8]) ->
         return MarkedLists { answer, plan };
     }
     let n = file.len() - 1;
-    marked_lists(&file[..n], b"chr1", first, second, marks)
+    marked_lists(&file[..n], name, first, second, marks)
 }

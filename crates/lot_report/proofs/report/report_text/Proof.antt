@@ -4,9 +4,9 @@ use Prim.Native.Nat.{ℕ}
 use native.Mathlib.Omega.{arith}
 use borrow.Author.Needs.{needs}
 use borrow.Author.Tests.{not-true, not-false}
-use lib.ListN.{length, drop}
-use Rattle.bases.specs.Put.{put}
+use lib.ListN.{drop}
 use Rattle.files.proofs.FileLaws.{ends-some}
+use Rattle.lines.proofs.WroteLaws.{wrote-text}
 use Rattle.vcf.proofs.FieldLaws.{until-within}
 use Rattle.vcf.specs.Bytes.{LF}
 use Rattle.vcf.specs.List.{linesOf}
@@ -28,7 +28,7 @@ returns c =
     let t = a .text .now in
     let e = report-wrong t (wrong-long t (c .before .before .before .before .if1 .taken)) in
     let w = c .before .before .refused-text .ensures in
-    (w .0 ∙ ap length (sym e), w .1 ∙ ap (put (a .out .now) 0) (sym e))
+    wrote-text (a .out .now) _ _ _ _ w (sym e)
 
 ends-in-lf-requires : tie.Need-ends-in-lf-requires
 ends-in-lf-requires c κs = search needs
@@ -45,7 +45,7 @@ returns-2 c =
     let t = a .text .now in
     let e = report-wrong t (wrong-open t (sym (c .before .before .before .before .before .ends-in-lf .ensures) ∙ not-true _ (c .before .before .before .before .if2 .taken))) in
     let w = c .before .before .refused-text2 .ensures in
-    (w .0 ∙ ap length (sym e), w .1 ∙ ap (put (a .out .now) 0) (sym e))
+    wrote-text (a .out .now) _ _ _ _ w (sym e)
 
 is-headed-requires : tie.Need-is-headed-requires
 is-headed-requires c κs = search needs
@@ -64,7 +64,7 @@ returns-3 c =
     let right = right-text t (c .before .before .before .before .before .before .before .before .if1 .left) ends in
     let e = report-unheaded t right (sym (c .before .before .before .before .before .is-headed .ensures) ∙ not-true _ (c .before .before .before .before .if3 .taken)) in
     let w = c .before .before .refused-text3 .ensures in
-    (w .0 ∙ ap length (sym e), w .1 ∙ ap (put (a .out .now) 0) (sym e))
+    wrote-text (a .out .now) _ _ _ _ w (sym e)
 
 next-line-requires : tie.Need-next-line-requires
 next-line-requires c κs =
@@ -99,7 +99,7 @@ returns-4 c =
     ∙ ap (λ (k : ℕ). badLine 2 (linesOf (drop k t))) from in
     let e = report-bad t right headed (λ z. c .before .before .before .before .if4 .taken (bad ∙ z)) in
     let w = rw bad at (c .before .before .refused-text4 .ensures) in
-    (w .0 ∙ ap length (sym e), w .1 ∙ ap (put (a .out .now) 0) (sym e))
+    wrote-text (a .out .now) _ _ _ _ w (sym e)
 
 report-runs-requires : tie.Need-report-runs-requires
 report-runs-requires c κs =
@@ -126,7 +126,7 @@ returns-5 c =
     let e = report-runs t right headed
     (ap (λ (k : ℕ). badLine 2 (linesOf (drop k t))) (sym from) ∙ sym (c .before .before .before .before .before .bad-line .ensures) ∙ c .before .before .before .before .if4 .left) in
     let w = rw from at (c .before .before .report-runs .ensures) in
-    (w .0 ∙ ap length (sym e), w .1 ∙ ap (put (a .out .now) 0) (sym e))
+    wrote-text (a .out .now) _ _ _ _ w (sym e)
 
 pub report-text-spec : {M : Type 1} → statement M
 report-text-spec =

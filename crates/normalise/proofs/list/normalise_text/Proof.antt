@@ -1,16 +1,17 @@
 -- `normalise::list::normalise_text` meets its contract: what is printed goes by whether the reference file ends in LF, and by what the call `normal`
 -- answers. Assumes nothing.
 use mathlib.Core.List.{List}
-use mathlib.Core.Path.{sym, ap, _∙_}
+use mathlib.Core.Path.{refl, sym, ap, _∙_}
 use Prim.Native.Nat.{ℕ}
 use native.Mathlib.Omega.{arith}
 use borrow.Author.Needs.{needs}
 use borrow.Author.Tests.{not-true, not-false}
-use lib.ListN.{length}
 use lib.Seq.{length-take-le}
 use Rattle.bases.specs.Put.{put}
 use Rattle.files.proofs.FileLaws.{ends-some}
+use Rattle.lines.proofs.WroteLaws.{wrote-text}
 use Rattle.lines.specs.Lines.{refusedText}
+use Rattle.normalise.specs.Normalised.{normalisedText}
 use Rattle.normalise.proofs.NormalisedLaws.{normalised-open, answer-printable, text-refused, text-given}
 use Rattle.normalise.proofs.list.normalise_text.Statement.{statement}
 use Rattle.normalise.proofs.list.normalise_text.Tie as tie
@@ -26,23 +27,21 @@ same-length c = search needs
 
 returns : tie.Need-returns
 returns c =
-    let a = c .before .before .before .before .before .before .before .before .before .args in
-    let t = normalised-open (a .file .now) (a .text .now) (sym (c .before .before .before .before .before .ends-in-lf .ensures) ∙ not-true _ (c .before .before .before .before .if1 .taken)) in
+    let a = c .before .before .before .before .before .before .before .before .before .before .args in
+    let t = normalised-open (a .file .now) (a .name .now) (a .text .now)
+    (sym (c .before .before .before .before .before .ends-in-lf .ensures) ∙ not-true _ (c .before .before .before .before .if1 .taken)) in
     let w = c .before .before .refused-text .ensures in
-    (w .0 ∙ ap length (sym t), w .1 ∙ ap (put (a .out .now) 0) (sym t))
+    wrote-text (a .out .now) _ _ _ _ w (sym t)
 
 sub-n : tie.Need-sub-n
 sub-n c =
-    let a = c .before .before .before .before .before .args in
+    let a = c .before .before .before .before .before .before .args in
     omega (arith, ends-some (a .file .now) (sym (c .before .ends-in-lf .ensures) ∙ not-false _ (c .if1 .left)))
 
 slice-aggregate-normal : tie.Need-slice-aggregate-normal
 slice-aggregate-normal c =
-    let a = c .before .before .before .before .before .before .args in
+    let a = c .before .before .before .before .before .before .before .args in
     sym (length-take-le _ (a .file .now) (omega arith))
-
-slice-aggregate-normal-2 : tie.Need-slice-aggregate-normal-2
-slice-aggregate-normal-2 c = search needs
 
 normal-requires : tie.Need-normal-requires
 normal-requires c κs = search needs
@@ -61,11 +60,11 @@ refused-text-requires-2 c κs =
     let c8 = c .before .before .before .before .before .before .before .before in
     let c16 = c8 .before .before .before .before .before .before .before .before in
     let a = c16 .before .args in
-    let ends = sym (c8 .before .before .before .before .before .ends-in-lf .ensures) ∙ not-false _ (c8 .before .before .before .before .if1 .left) in
+    let ends = sym (c8 .before .before .before .before .ends-in-lf .ensures) ∙ not-false _ (c8 .before .before .before .if1 .left) in
     let w = c8 .normal in
     let m = w .result in
     let e = w .ensures in
-    let p = answer-printable (a .file .now) (a .text .now) (a .out .now) ends (c16 .before .pre .0) m (e .0) (c .before .before .before .before .if2 .taken) in
+    let p = answer-printable (a .file .now) (a .name .now) (a .text .now) (a .out .now) ends (c16 .before .pre .0) m (e .0) (c .before .before .before .before .if2 .taken) in
     (p .0, p .1, p .2, omega (arith, c16 .before .pre .1, w .kept .1 .1 .1 .0))
 
 same-length-2 : tie.Need-same-length-2
@@ -76,15 +75,15 @@ returns-2 c =
     let c8 = c .before .before .before .before .before .before .before .before in
     let c16 = c8 .before .before .before .before .before .before .before .before in
     let a = c16 .before .before .before .before .args in
-    let ends = sym (c16 .ends-in-lf .ensures) ∙ not-false _ (c8 .before .before .before .before .before .before .before .if1 .left) in
+    let ends = sym (c8 .before .before .before .before .before .before .before .ends-in-lf .ensures) ∙ not-false _ (c8 .before .before .before .before .before .before .if1 .left) in
     let w = c8 .before .before .before .normal in
     let m = w .result in
     let e = w .ensures in
-    let t = text-refused (a .file .now) (a .text .now) (a .out .now) ends (c16 .before .before .before .before .pre .0) m (e .0)
+    let t = text-refused (a .file .now) (a .name .now) (a .text .now) (a .out .now) ends (c16 .before .before .before .before .pre .0) m (e .0)
     (c .before .before .before .before .before .before .before .if2 .taken) in
     let v = c .before .before .refused-text2 .ensures in
     let line = refusedText (m .number) (m .list) (m .line) in
-    (v .0 ∙ ap length (sym (t .0)), v .1 ∙ ap (λ (l : List ℕ). put l 0 line) (e .1 ∙ t .1) ∙ ap (put (a .out .now) 0) (sym (t .0)))
+    wrote-text (a .out .now) line _ _ _ (v .0, v .1 ∙ ap (λ (l : List ℕ). put l 0 line) (e .1 ∙ t .1)) (sym (t .0))
 
 cast-result : tie.Need-cast-result
 cast-result c = search needs
@@ -96,12 +95,12 @@ returns-3 : tie.Need-returns-3
 returns-3 c =
     let c8 = c .before .before .before .before .before .before .before .before in
     let a = c8 .before .before .before .before .before .before .args in
-    let ends = sym (c8 .before .before .ends-in-lf .ensures) ∙ not-false _ (c8 .before .if1 .left) in
+    let ends = sym (c8 .before .ends-in-lf .ensures) ∙ not-false _ (c8 .if1 .left) in
     let w = c .before .before .before .before .before .normal in
     let m = w .result in
     let e = w .ensures in
-    let g = text-given (a .file .now) (a .text .now) (a .out .now) ends (c8 .before .before .before .before .before .before .pre .0) m (e .0) (c .before .if2 .left) in
-    (g .0, e .1 ∙ g .1)
+    let g = text-given (a .file .now) (a .name .now) (a .text .now) (a .out .now) ends (c8 .before .before .before .before .before .before .pre .0) m (e .0) (c .before .if2 .left) in
+    wrote-text (a .out .now) (normalisedText (a .file .now) (a .name .now) (a .text .now)) _ _ _ (g .0, e .1 ∙ g .1) refl
 
 pub normalise-text-spec : {M : Type 1} → statement M
 normalise-text-spec =
@@ -113,7 +112,6 @@ normalise-text-spec =
     returns
     sub-n
     slice-aggregate-normal
-    slice-aggregate-normal-2
     normal-requires
     cast-refused-text
     cast-refused-text-2

@@ -14,22 +14,19 @@ ends-in-lf-requires c κs = search needs
 
 returns : tie.Need-returns
 returns c =
-    let a = c .before .before .before .before .before .before .args in
-    let p = open-files (a .file .now) (a .first .now) (a .second .now) (a .marks .now) (sym (c .before .ends-in-lf .ensures) ∙ not-true _ (c .if1 .taken)) in
+    let a = c .before .before .before .before .before .before .before .args in
+    let p = open-files (a .file .now) (a .name .now) (a .first .now) (a .second .now) (a .marks .now) (sym (c .before .ends-in-lf .ensures) ∙ not-true _ (c .if1 .taken)) in
     (sym (p .0), sym (p .1), sym (p .2))
 
 sub-n : tie.Need-sub-n
 sub-n c =
-    let a = c .before .before .before .before .before .before .args in
+    let a = c .before .before .before .before .before .before .before .args in
     omega (arith, ends-some (a .file .now) (sym (c .before .ends-in-lf .ensures) ∙ not-false _ (c .if1 .left)))
 
 slice-aggregate-marked-lists : tie.Need-slice-aggregate-marked-lists
 slice-aggregate-marked-lists c =
-    let a = c .before .before .before .before .before .before .before .args in
+    let a = c .before .before .before .before .before .before .before .before .args in
     sym (length-take-le _ (a .file .now) (omega arith))
-
-slice-aggregate-marked-lists-2 : tie.Need-slice-aggregate-marked-lists-2
-slice-aggregate-marked-lists-2 c = search needs
 
 marked-lists-requires : tie.Need-marked-lists-requires
 marked-lists-requires c κs = search needs
@@ -39,10 +36,9 @@ same-length c = search needs
 
 returns-2 : tie.Need-returns-2
 returns-2 c =
-    let c8 = c .before .before .before .before .before .before .before .before in
-    let a = c8 .before .before .before .before .args in
-    let p = closed-files (a .file .now) (a .first .now) (a .second .now) (a .marks .now)
-    (sym (c .before .before .before .before .before .before .before .ends-in-lf .ensures) ∙ not-false _ (c .before .before .before .before .before .before .if1 .left)) in
+    let a = c .before .before .before .before .before .before .before .before .before .before .before .before .args in
+    let p = closed-files (a .file .now) (a .name .now) (a .first .now) (a .second .now) (a .marks .now)
+    (sym (c .before .before .before .before .before .before .ends-in-lf .ensures) ∙ not-false _ (c .before .before .before .before .before .if1 .left)) in
     let r = c .before .before .marked-lists .ensures in
     (r .0 ∙ sym (p .0), r .1 ∙ sym (p .1), r .2 ∙ sym (p .2))
 
@@ -54,7 +50,6 @@ mark-files-spec =
     returns
     sub-n
     slice-aggregate-marked-lists
-    slice-aggregate-marked-lists-2
     marked-lists-requires
     same-length
     returns-2)
