@@ -1,2 +1,3 @@
 pub mod Determines
 pub mod FileLaws
+pub mod NameLaws

@@ -27,7 +27,7 @@ pub const LIST_ROOM: usize = NAME_ROOM + 2 * FILE_ROOM;
 pub const LISTS_ROOM: usize = LIST_ROOM + FILE_ROOM;
 
 // Writes the name that a program has where it is given none.
-pub fn put_chrom(room: &mut [u8]) -> usize
+fn put_chrom(room: &mut [u8]) -> usize
     requires { ⌜ nameRoom ≤ length (now room) ⌝ }
     ensures { λ r. ⌜
         (r ≡ length chromName)
@@ -39,7 +39,7 @@ pub fn put_chrom(room: &mut [u8]) -> usize
 
 // Reads the name into the room, from its start on, and says where it ends. One that does not fit its room counts as empty: neither is the
 // CHROM of a record.
-pub fn read_name(room: &mut [u8]) -> usize
+fn read_name(room: &mut [u8]) -> usize
     requires { ⌜ nameRoom ≤ length (now room) ⌝ }
     ensures { λ r. ⌜ r ≤ nameRoom ⌝ }
 {
@@ -50,7 +50,7 @@ pub fn read_name(room: &mut [u8]) -> usize
 }
 
 // Reads a file into the room from `at` on, and says where what was read ends. What stands before it stays.
-pub fn read_behind(path: &[u8], room: &mut [u8], at: usize) -> usize
+fn read_behind(path: &[u8], room: &mut [u8], at: usize) -> usize
     requires { ⌜ at + fileRoom ≤ length (now room) ⌝ }
     ensures { λ r. ⌜
         (at ≤ r)
