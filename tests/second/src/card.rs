@@ -164,7 +164,7 @@ pub fn allele(
 }
 
 /// Row 2: the lent room is below what the call needs.
-fn judge_room(lent: usize, needed: usize) -> Result<(), Refusal> {
+pub(crate) fn judge_room(lent: usize, needed: usize) -> Result<(), Refusal> {
     if lent < needed {
         return Err(Refusal::of_call(SMALL_ROOM));
     }
@@ -172,7 +172,7 @@ fn judge_room(lent: usize, needed: usize) -> Result<(), Refusal> {
 }
 
 /// The entries of list 1 and of list 2, judged in this order.
-fn read_both(
+pub(crate) fn read_both(
     reference: &[u8],
     name: &[u8],
     first: &[u8],

@@ -1,10 +1,11 @@
-//! The comparison card, written a second time from document 01 and request d alone.
+//! The comparison card, written a second time from document 01, request d and include/card.h alone.
 //!
 //! It exists to be compared with: each rule stands once, in document 01's words, and the two places
 //! that matter most, the best pair and the normal form, stand twice, by definition and by a search
 //! that is quick. The tests hold the two ways against each other.
 //!
-//! - the calls: `card` (plan, mark, mark_all, count, normal, allele), `lot` (recall for a reagent lot)
+//! - the calls: `card` (plan, mark, mark_all, count, normal, allele), `entries` (where each entry stands), `lot`
+//!   (recall for a reagent lot)
 //! - what the programs print: `programs` (compare, normalise, counts, lot_report), `report` (the table of a lot)
 //! - what is turned away: `refusal`
 //! - reading: `reference`, `part`, `entry`, `record`, `list`
@@ -27,6 +28,7 @@ pub mod counts;
 pub mod donor;
 pub mod drawn;
 pub mod drive;
+pub mod entries;
 pub mod entry;
 pub mod gap;
 pub mod list;
@@ -46,6 +48,7 @@ pub mod written;
 pub use card::{allele, count, mark, mark_all, normal, plan, Marked, Shown};
 pub use clusters::Cluster;
 pub use counts::Counts;
+pub use entries::{entries, Listed};
 pub use entry::Entry;
 pub use list::{read, List};
 pub use lot::{lot, Lot, Run, Share};

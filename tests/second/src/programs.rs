@@ -11,22 +11,24 @@ use crate::merged::merged;
 use crate::refusal::{Refusal, WRONG_REFERENCE};
 use crate::report::report;
 
-const NAME: &[u8] = b"chr1";
+/// The name where a program is given none.
+pub const NAME: &[u8] = b"chr1";
+
 const HEADING: &str = "list\tPOS\tcluster\tmark\n";
 
-/// What `compare` prints for the bytes of reference.txt, first.vcf and second.vcf.
-pub fn compare(reference_file: &[u8], first: &[u8], second: &[u8]) -> Vec<u8> {
-    compared(reference_file, first, second).unwrap_or_else(refused)
+/// What `compare` prints for the bytes of reference.txt, first.vcf and second.vcf, with this name.
+pub fn compare(reference_file: &[u8], name: &[u8], first: &[u8], second: &[u8]) -> Vec<u8> {
+    compared(reference_file, name, first, second).unwrap_or_else(refused)
 }
 
-/// What `normalise` prints for the bytes of reference.txt and first.vcf.
-pub fn normalise(reference_file: &[u8], first: &[u8]) -> Vec<u8> {
-    normalised(reference_file, first).unwrap_or_else(refused)
+/// What `normalise` prints for the bytes of reference.txt and first.vcf, with this name.
+pub fn normalise(reference_file: &[u8], name: &[u8], first: &[u8]) -> Vec<u8> {
+    normalised(reference_file, name, first).unwrap_or_else(refused)
 }
 
-/// What `counts` prints for the bytes of reference.txt, first.vcf and second.vcf.
-pub fn counts(reference_file: &[u8], first: &[u8], second: &[u8]) -> Vec<u8> {
-    counted(reference_file, first, second).unwrap_or_else(refused)
+/// What `counts` prints for the bytes of reference.txt, first.vcf and second.vcf, with this name.
+pub fn counts(reference_file: &[u8], name: &[u8], first: &[u8], second: &[u8]) -> Vec<u8> {
+    counted(reference_file, name, first, second).unwrap_or_else(refused)
 }
 
 /// What `lot_report` prints for the bytes of runs.tsv.
@@ -39,29 +41,39 @@ fn refused(refusal: Refusal) -> Vec<u8> {
     format!("refused\t{number}\t{list}\t{line}\n").into_bytes()
 }
 
-fn normalised(reference_file: &[u8], first: &[u8]) -> Result<Vec<u8>, Refusal> {
+fn normalised(reference_file: &[u8], name: &[u8], first: &[u8]) -> Result<Vec<u8>, Refusal> {
     let mut room = vec![0; first.len()];
-    let length = normal(bases(reference_file)?, NAME, first, &mut room)?;
+    let length = normal(bases(reference_file)?, name, first, &mut room)?;
     room.truncate(length);
     Ok(room)
 }
 
-fn compared(reference_file: &[u8], first: &[u8], second: &[u8]) -> Result<Vec<u8>, Refusal> {
+fn compared(
+    reference_file: &[u8],
+    name: &[u8],
+    first: &[u8],
+    second: &[u8],
+) -> Result<Vec<u8>, Refusal> {
     let reference = bases(reference_file)?;
     let mut plan = [Cluster::default(); ENTRIES_MOST];
     let mut marks = [0; ENTRIES_MOST];
-    let (count, score) = mark_all(reference, NAME, first, second, &mut plan, &mut marks)?;
-    let first = list::read(reference, NAME, 1, first)?;
-    let second = list::read(reference, NAME, 2, second)?;
+    let (count, score) = mark_all(reference, name, first, second, &mut plan, &mut marks)?;
+    let first = list::read(reference, name, 1, first)?;
+    let second = list::read(reference, name, 2, second)?;
     Ok(table(&first, &second, &plan[..count as usize], &marks, score))
 }
 
 /// The counts of list 1, then those of list 2, on one line.
-fn counted(reference_file: &[u8], first: &[u8], second: &[u8]) -> Result<Vec<u8>, Refusal> {
+fn counted(
+    reference_file: &[u8],
+    name: &[u8],
+    first: &[u8],
+    second: &[u8],
+) -> Result<Vec<u8>, Refusal> {
     let reference = bases(reference_file)?;
     let (mut plan, mut marks) = ([Cluster::default(); ENTRIES_MOST], [0; ENTRIES_MOST]);
-    mark_all(reference, NAME, first, second, &mut plan, &mut marks)?;
-    let both = count(reference, NAME, first, second, &marks)?;
+    mark_all(reference, name, first, second, &mut plan, &mut marks)?;
+    let both = count(reference, name, first, second, &marks)?;
     let numbers = both.map(|counts| counts.numbers().map(|number| number.to_string()).join("\t"));
     Ok(format!("{}\n", numbers.join("\t")).into_bytes())
 }

@@ -2,7 +2,7 @@
 
 mod common;
 
-use common::calls::{normal, Case, OLD_CLUSTER, OLD_MARK};
+use common::calls::{normal, Case, OLD_CLUSTER, OLD_LISTED, OLD_MARK};
 use common::lists::{text, NAME};
 use common::refused::refusals;
 use second::{Cluster, Marked, Refusal};
@@ -32,14 +32,14 @@ fn row_1_a_reference_file_ends_in_exactly_one_lf() {
     let (first, second) = (text(&[]), text(&[]));
     let refused = b"refused\t1\t0\t0\n";
     for wrong in [&b""[..], b"\n", b"ACG", b"ACG\n\n", b"ACG\r\n", b"\nACG\n", b"ACG\nA"] {
-        assert_eq!(second::compare(wrong, &first, &second), refused);
-        assert_eq!(second::counts(wrong, &first, &second), refused);
-        assert_eq!(second::normalise(wrong, &first), refused);
+        assert_eq!(second::compare(wrong, NAME, &first, &second), refused);
+        assert_eq!(second::counts(wrong, NAME, &first, &second), refused);
+        assert_eq!(second::normalise(wrong, NAME, &first), refused);
     }
-    let printed = second::compare(b"ACGTN\n", &first, &second);
+    let printed = second::compare(b"ACGTN\n", NAME, &first, &second);
     assert_eq!(printed, b"list\tPOS\tcluster\tmark\ntotal\t0\t0\t0\t0\n");
-    assert_eq!(second::normalise(b"ACGTN\n", &first), first);
-    assert_eq!(second::counts(b"ACGTN\n", &first, &second), b"0\t0\t0\t0\t0\t0\n");
+    assert_eq!(second::normalise(b"ACGTN\n", NAME, &first), first);
+    assert_eq!(second::counts(b"ACGTN\n", NAME, &first, &second), b"0\t0\t0\t0\t0\t0\n");
 }
 
 #[test]
@@ -59,6 +59,23 @@ fn row_2_small_room_refuses_plan_and_mark() {
         assert_eq!(found, Err(call(2)));
         assert!(plan.iter().all(|record| *record == OLD_CLUSTER));
         assert!(marks.iter().all(|mark| *mark == OLD_MARK));
+    }
+}
+
+#[test]
+fn row_2_small_room_refuses_entries_though_they_would_fit() {
+    let case = two_clusters();
+    let (reference, first, second) = (&case.reference, &case.first, &case.second);
+    for room in [0, 2, 1_023] {
+        let mut entries = vec![OLD_LISTED; room];
+        let found = second::entries(reference, NAME, first, second, &mut entries);
+        assert_eq!(found, Err(call(2)));
+        assert!(entries.iter().all(|record| *record == OLD_LISTED));
+    }
+    for room in [1_024, 1_025, 5_000] {
+        let mut entries = vec![OLD_LISTED; room];
+        assert_eq!(second::entries(reference, NAME, first, second, &mut entries), Ok(2));
+        assert!(entries[2..].iter().all(|record| *record == OLD_LISTED));
     }
 }
 

@@ -3,6 +3,7 @@
 mod common;
 
 use common::calls::Case;
+use common::lists::NAME;
 use common::random::Random;
 use common::seen::Seen;
 use common::world::World;
@@ -170,7 +171,7 @@ fn counts_of_both_lists_add_up_to_the_totals_of_compare() {
     for seed in 910_000..912_000 {
         let case = Case::of(&World::new(&mut Random::new(seed), 9));
         let file = [&case.reference[..], b"\n"].concat();
-        let line = second::counts(&file, &case.first, &case.second);
+        let line = second::counts(&file, NAME, &case.first, &case.second);
         let line = String::from_utf8(line).expect("ASCII");
         let numbers: Vec<u32> = line
             .strip_suffix('\n')

@@ -86,5 +86,5 @@ fn pos_may_gain_or_lose_a_digit() {
 #[test]
 fn normalise_prints_the_normal_text() {
     let read = text(&["4 TAT T 1/1"]);
-    assert_eq!(second::normalise(b"GCATATG\n", &read), text(&["2 CAT C 1/1"]));
+    assert_eq!(second::normalise(b"GCATATG\n", NAME, &read), text(&["2 CAT C 1/1"]));
 }

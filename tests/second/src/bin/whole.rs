@@ -1,8 +1,11 @@
-//! `whole PROGRAM COUNT SEED COMMAND..` draws COUNT folders from SEED, runs PROGRAM, which COMMAND starts, in each of them, and
-//! holds what it prints to what this package prints. PROGRAM is `compare`, `counts` or `lot_report`.
+//! `whole [--named] PROGRAM COUNT SEED COMMAND..` draws COUNT folders from SEED, runs PROGRAM, which COMMAND starts, in each of them, and
+//! holds what it prints to what this package prints. PROGRAM is `compare`, `counts`, `normalise` or `lot_report`. With --named, which
+//! lot_report has not, the program is given names too: the one that the records have, others, an empty one, and one too long for any.
 
-use second::drive::draw::folders::{folder, FILES};
+use second::drive::draw::folders::{folder, named_folder, FILES};
+use second::drive::draw::names::Given;
 use second::drive::draw::runs::{self, runs_file};
+use second::programs::NAME;
 use second::whole::{hold, Folder};
 use std::process::ExitCode;
 
@@ -10,17 +13,31 @@ use std::process::ExitCode;
 const REFUSED_LOTS: [&str; 5] =
     ["refused 3/0", "refused 5/0", "refused 6/0", "refused 30/0", "refused 31/0"];
 
+/// What each run with names is to come upon.
+const GIVEN: [&str; 6] = [
+    "no name answered",
+    "the records' name answered",
+    "another name refused",
+    "an empty name refused",
+    "a name over 1,024 bytes refused",
+    "refused 7/1",
+];
+
 /// A program by its name: its folder of a seed and number, the kind of something that it prints, and the kinds that are demanded.
 struct Program {
-    draw: fn(u64, u64) -> Folder,
+    draw: Box<dyn Fn(u64, u64) -> Folder>,
     kind: fn(&str) -> String,
     demanded: &'static [&'static str],
 }
 
 fn main() -> ExitCode {
-    let arguments: Vec<String> = std::env::args().skip(1).collect();
-    let Some((program, count, seed, command)) = parsed(&arguments) else {
-        eprintln!("usage: whole compare|counts|lot_report COUNT SEED COMMAND..");
+    let mut arguments: Vec<String> = std::env::args().skip(1).collect();
+    let is_named = arguments.first().is_some_and(|word| word == "--named");
+    arguments.drain(..usize::from(is_named));
+    let Some((program, count, seed, command)) = parsed(&arguments, is_named) else {
+        eprintln!(
+            "usage: whole [--named] compare|counts|normalise|lot_report COUNT SEED COMMAND.."
+        );
         return ExitCode::from(2);
     };
     let folders = (0..count).map(|number| (program.draw)(seed, number));
@@ -32,39 +49,60 @@ fn main() -> ExitCode {
     }
 }
 
-fn parsed(arguments: &[String]) -> Option<(Program, u64, u64, &[String])> {
+fn parsed(arguments: &[String], is_named: bool) -> Option<(Program, u64, u64, &[String])> {
     let [program, count, seed, command @ ..] = arguments else { return None };
+    let of_lists = |print, kind| {
+        let draw = Box::new(move |seed, number| of_two_lists(seed, number, is_named, print));
+        Program { draw, kind, demanded: if is_named { &GIVEN } else { &[] } }
+    };
     let program = match program.as_str() {
-        "compare" => Program { draw: compared, kind: of_table, demanded: &[] },
-        "counts" => Program { draw: counted, kind: of_counts, demanded: &[] },
-        "lot_report" => Program { draw: reported, kind: of_report, demanded: &REFUSED_LOTS },
+        "compare" => of_lists(second::compare, of_table),
+        "counts" => of_lists(second::counts, of_counts),
+        "normalise" => of_lists(normalise, of_text),
+        "lot_report" if !is_named => {
+            Program { draw: Box::new(reported), kind: of_report, demanded: &REFUSED_LOTS }
+        }
         _ => return None,
     };
     let (count, seed) = (count.parse().ok()?, seed.parse().ok()?);
     (!command.is_empty()).then_some((program, count, seed, command))
 }
 
-fn compared(seed: u64, number: u64) -> Folder {
-    of_two_lists(seed, number, second::compare)
-}
+/// What a program prints for the bytes of its reference, its name, and those of its lists.
+type Print = fn(&[u8], &[u8], &[u8], &[u8]) -> Vec<u8>;
 
-fn counted(seed: u64, number: u64) -> Folder {
-    of_two_lists(seed, number, second::counts)
+/// Program normalise does not read the second list.
+fn normalise(reference: &[u8], name: &[u8], first: &[u8], _: &[u8]) -> Vec<u8> {
+    second::normalise(reference, name, first)
 }
 
 /// A missing file counts as empty.
-fn of_two_lists(seed: u64, number: u64, print: fn(&[u8], &[u8], &[u8]) -> Vec<u8>) -> Folder {
-    let folder = folder(seed, number);
+fn of_two_lists(seed: u64, number: u64, is_named: bool, print: Print) -> Folder {
+    let (folder, given) = if is_named { named_folder(seed, number) } else { folder(seed, number) };
     let [reference, first, second] =
         folder.each_ref().map(|file| file.as_deref().unwrap_or_default());
-    let expected = print(reference, first, second);
-    Folder { files: FILES.into_iter().zip(folder).collect(), expected }
+    let Given { name, .. } = &given;
+    let expected = print(reference, name.as_deref().unwrap_or(NAME), first, second);
+    let files = FILES.into_iter().zip(folder).collect();
+    Folder { files, given: is_named.then_some(given), expected }
 }
 
 fn reported(seed: u64, number: u64) -> Folder {
     let file = runs_file(seed, number);
     let expected = second::lot_report(file.as_deref().unwrap_or_default());
-    Folder { files: vec![(runs::FILE, file)], expected }
+    Folder { files: vec![(runs::FILE, file)], given: None, expected }
+}
+
+/// How many records.
+fn of_text(printed: &str) -> String {
+    let records = printed.lines().filter(|line| !line.starts_with('#')).count();
+    let records = match records {
+        0 => "no record",
+        1 => "one record",
+        2..=9 => "records",
+        _ => "many records",
+    };
+    records.to_string()
 }
 
 /// How many clusters, and whether some are undecided.

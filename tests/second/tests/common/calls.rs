@@ -2,11 +2,12 @@
 
 use super::lists::{text, text_of, NAME};
 use super::world::World;
-use second::{Cluster, Counts, Marked, Refusal};
+use second::{Cluster, Counts, Listed, Marked, Refusal};
 
 /// What lent memory holds before a call.
 pub const OLD_MARK: u8 = b'm';
 pub const OLD_CLUSTER: Cluster = Cluster { first: 4_000_000, count: 77 };
+pub const OLD_LISTED: Listed = Listed { list: 9, entry: 4_000_000, line: 77, cluster: 5_000_000 };
 
 /// A reference and two list texts.
 pub struct Case {
@@ -65,6 +66,13 @@ impl Case {
         Ok((String::from_utf8(marks).expect("marks are ASCII"), done?.1))
     }
 
+    /// Where each entry stands; the records behind the last entry's must keep their values.
+    pub fn entries(&self) -> Result<Vec<Listed>, Refusal> {
+        let mut entries = vec![OLD_LISTED; 1_024];
+        let count = second::entries(&self.reference, NAME, &self.first, &self.second, &mut entries);
+        keep_written(entries, count.map(|count| count as usize), OLD_LISTED)
+    }
+
     /// What these marks count.
     pub fn count(&self, marks: &[u8]) -> Result<[Counts; 2], Refusal> {
         second::count(&self.reference, NAME, &self.first, &self.second, marks)
@@ -73,7 +81,7 @@ impl Case {
     /// What `compare` prints.
     pub fn printed(&self) -> String {
         let file = [&self.reference[..], b"\n"].concat();
-        let printed = second::compare(&file, &self.first, &self.second);
+        let printed = second::compare(&file, NAME, &self.first, &self.second);
         String::from_utf8(printed).expect("the table is ASCII")
     }
 }

@@ -10,7 +10,7 @@ pub fn refusals(reference: &[u8], text: &[u8], other: &[u8]) -> (Vec<Refusal>, V
     let mut as_first = refusals_of_pair(reference, text, other);
     as_first.push(normal(reference, NAME, text).expect_err("normal"));
     as_first.push(second::allele(reference, NAME, text, 0, 0).expect_err("allele"));
-    let printed = second::normalise(&[reference, b"\n"].concat(), text);
+    let printed = second::normalise(&[reference, b"\n"].concat(), NAME, text);
     assert_eq!(printed, refused_line(as_first[0]));
     (as_first, refusals_of_pair(reference, other, text))
 }
@@ -24,11 +24,12 @@ fn refusals_of_pair(reference: &[u8], first: &[u8], second: &[u8]) -> Vec<Refusa
         case.mark(&[], 0, &mut marks).expect_err("mark"),
         case.marks().expect_err("mark_all"),
         case.count(&marks).expect_err("count"),
+        case.entries().expect_err("entries"),
     ];
     assert!(marks.iter().all(|mark| *mark == OLD_MARK));
     assert_eq!(case.printed().into_bytes(), refused_line(found[0]));
     let file = [reference, b"\n"].concat();
-    assert_eq!(second::counts(&file, &case.first, &case.second), refused_line(found[0]));
+    assert_eq!(second::counts(&file, NAME, &case.first, &case.second), refused_line(found[0]));
     found
 }
 
@@ -59,5 +60,6 @@ pub fn assert_accepted(reference: &str, text: &[u8], entries: usize) {
         let case = Case { reference: reference.into(), first, second };
         let (marks, _) = case.marks().expect("marked");
         assert_eq!(marks.len(), entries);
+        assert_eq!(case.entries().expect("listed").len(), entries);
     }
 }

@@ -1,6 +1,7 @@
-//! Folders for programs compare and counts: their three files, of lists as drawn or broken, and of files that are missing or end in
-//! another way.
+//! Folders for programs compare, counts and normalise: their three files, of lists as drawn or broken, and of files that are missing
+//! or end in another way. And the name that the program is given.
 
+use super::names::{names, Given, NONE};
 use super::random_of;
 use super::two_lists::{lists, TwoLists};
 use crate::drawn::list::{Drawn, CHROM};
@@ -14,14 +15,29 @@ pub const FILES: [&str; 3] = ["reference.txt", "first.vcf", "second.vcf"];
 /// The bytes of the files, None for one that is missing.
 pub type Folder = [Option<Vec<u8>>; 3];
 
-/// Folder `number` of the run with this seed.
-pub fn folder(seed: u64, number: u64) -> Folder {
+/// Folder `number` of the run with this seed, for programs that are given no name.
+pub fn folder(seed: u64, number: u64) -> (Folder, Given) {
     let random = &mut random_of(seed, number);
     let lists = if random.once_in(4) { worlds(random) } else { lists(random) };
-    let lists = if random.once_in(40) { lists } else { lists.map(renamed) };
-    let two = match random.below(10) {
-        0..=5 => TwoLists::of(&lists),
-        _ => TwoLists::spoiled(random, &lists),
+    let lists = if random.once_in(40) { lists } else { lists.map(|list| renamed(list, NAME)) };
+    let is_spoiled = random.below(10) > 5;
+    (files(random, &lists, is_spoiled), Given { name: None, kind: NONE })
+}
+
+/// Folder `number` of the run with this seed, and a name to be given, or none.
+pub fn named_folder(seed: u64, number: u64) -> (Folder, Given) {
+    let random = &mut random_of(seed, number);
+    let lists = if random.once_in(4) { worlds(random) } else { lists(random) };
+    let (name, given) = names(random);
+    let lists = lists.map(|list| renamed(list, &name));
+    let is_spoiled = random.once_in(4);
+    (files(random, &lists, is_spoiled), given)
+}
+
+fn files(random: &mut Random, lists: &[Drawn; 2], is_spoiled: bool) -> Folder {
+    let two = match is_spoiled {
+        false => TwoLists::of(lists),
+        true => TwoLists::spoiled(random, lists),
     };
     let TwoLists { reference, texts: [first, second], .. } = two;
     let mut folder = [[&reference[..], b"\n"].concat(), first, second].map(Some);
@@ -31,11 +47,11 @@ pub fn folder(seed: u64, number: u64) -> Folder {
     folder
 }
 
-/// With the name that the programs give.
-fn renamed(list: Drawn) -> Drawn {
-    let mut list = Drawn { name: NAME.to_vec(), ..list };
+/// With this name.
+fn renamed(list: Drawn, name: &[u8]) -> Drawn {
+    let mut list = Drawn { name: name.to_vec(), ..list };
     for fields in &mut list.records {
-        fields[CHROM] = NAME.to_vec();
+        fields[CHROM] = name.to_vec();
     }
     list
 }

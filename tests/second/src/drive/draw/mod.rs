@@ -5,11 +5,13 @@
 //! - `one_list` draws the calls of one list, `allele` and `normal`
 //! - `two_lists` draws `plan` and `count`, `marks` whole rows of calls of `mark` on one buffer
 //! - `mutated` draws rows of all calls, with bytes changed
-//! - `folders` draws what programs compare and counts read, `runs` what lot_report reads
+//! - `folders` draws what programs compare, counts and normalise read, `names` what they are given, `runs` what
+//!   lot_report reads
 
 pub mod folders;
 mod marks;
 mod mutated;
+pub mod names;
 mod one_list;
 pub mod runs;
 mod spoil;
