@@ -3,13 +3,16 @@
  *
  * Reads cases from standard input up to its end and writes what each call answered and left, all numbers little-endian:
  *
- *   a case      the call's number (4 bytes): 1 card_allele, 2 card_normal, 3 card_plan, 4 card_mark, 5 card_count;
+ *   a case      the call's number (4 bytes): 1 card_allele, 2 card_normal, 3 card_plan, 4 card_mark, 5 card_count,
+ *               6 card_mark_all, 7 card_entries, 8 card_version;
  *               each lent buffer, in the call's order: its count of bytes (4) and its bytes, or 0xFFFFFFFF for the buffer that
  *               was lent last in this place, with what the call left in it;
  *               each number (8)
- *   its answer  the numbers of card_answer or of card_counts (4 bytes each);
- *               one byte, 1 where a byte changed that the call may not write, a lent one or one beside them, else 0;
- *               where the call may write, all bytes of the buffer that it may write, its last
+ *   its answer  the numbers of card_answer, card_counts or card_all_marked (4 bytes each); of card_version those of a
+ *               card_answer, its number 0 where the library's version is the header's, else 1;
+ *               one byte, 1 where a byte changed that the call may not write, else 0: a lent one, any where the call is
+ *               refused, or one beside them;
+ *               all bytes of each buffer that the call may write: card_mark_all may write its last two, any other its last
  *
  * Each call is made TIMES times (once where it is not given), so that the cost of one can be counted from two runs. With `stack`
  * each is made on a painted stack, and at the end a line on standard error for each call's number says: `stack`, the number, how
@@ -19,79 +22,7 @@
 #include "../../include/card.h"
 #include "lent.h"
 #include "stack.h"
-
-enum { LENT_MOST = 6, NUMBERS_MOST = 2 };
-
-/* What a call answers. */
-union told {
-    card_answer answer;
-    card_counts counts;
-};
-
-struct call {
-    uint32_t lent, numbers;
-    int writes; /* whether it may write the last of the lent buffers */
-    size_t told; /* bytes of its answer */
-    union told (*make)(const struct lent *, const uint64_t *);
-};
-
-/* What this uses of a stack is what the driver itself uses. */
-static union told nothing(const struct lent *l, const uint64_t *n)
-{
-    (void)l;
-    (void)n;
-    return (union told){0};
-}
-
-static union told allele(const struct lent *l, const uint64_t *n)
-{
-    return (union told){.answer = card_allele(l[0].bytes, l[0].count, l[1].bytes, l[1].count, l[2].bytes, l[2].count, n[0],
-                                              n[1])};
-}
-
-static union told normal(const struct lent *l, const uint64_t *n)
-{
-    (void)n;
-    return (union told){.answer = card_normal(l[0].bytes, l[0].count, l[1].bytes, l[1].count, l[2].bytes, l[2].count,
-                                              l[3].bytes, l[3].count)};
-}
-
-static union told plan(const struct lent *l, const uint64_t *n)
-{
-    (void)n;
-    return (union told){.answer = card_plan(l[0].bytes, l[0].count, l[1].bytes, l[1].count, l[2].bytes, l[2].count,
-                                            l[3].bytes, l[3].count, (void *)l[4].bytes,
-                                            l[4].count / sizeof(card_cluster))};
-}
-
-static union told mark(const struct lent *l, const uint64_t *n)
-{
-    return (union told){.answer = card_mark(l[0].bytes, l[0].count, l[1].bytes, l[1].count, l[2].bytes, l[2].count,
-                                            l[3].bytes, l[3].count, (void *)l[4].bytes,
-                                            l[4].count / sizeof(card_cluster), n[0], l[5].bytes, l[5].count)};
-}
-
-static union told count(const struct lent *l, const uint64_t *n)
-{
-    (void)n;
-    return (union told){.counts = card_count(l[0].bytes, l[0].count, l[1].bytes, l[1].count, l[2].bytes, l[2].count,
-                                             l[3].bytes, l[3].count, l[4].bytes, l[4].count)};
-}
-
-/* The calls by their number in a case. */
-static const struct call calls[] = {
-    {0, 0, 0, 0, nothing},
-    {3, 2, 0, sizeof(card_answer), allele},
-    {4, 0, 1, sizeof(card_answer), normal},
-    {5, 0, 1, sizeof(card_answer), plan},
-    {6, 1, 1, sizeof(card_answer), mark},
-    {5, 0, 0, sizeof(card_counts), count},
-};
-enum { CALLS = sizeof calls / sizeof calls[0] };
-
-_Static_assert(sizeof(card_answer) == 16, "an answer is four numbers of four bytes");
-_Static_assert(sizeof(card_counts) == 36, "counts are nine numbers of four bytes");
-_Static_assert(sizeof(card_cluster) == 8, "a cluster is two numbers of four bytes");
+#include "calls.h"
 
 static struct lent lent[LENT_MOST];
 
@@ -117,7 +48,7 @@ static union told make_on_stack(const struct call *call, const uint64_t *numbers
 {
     struct made empty = {&calls[0], numbers, {0}}, made = {call, numbers, {0}};
     size_t own = stack_used(make, &empty), bytes = stack_used(make, &made) - own;
-    int refused = made.told.answer.number != 0; /* the first number of either answer */
+    int refused = made.told.answer.number != 0;
     used[call - calls][refused].count++;
     if (bytes > used[call - calls][refused].most)
         used[call - calls][refused].most = bytes;
@@ -144,7 +75,7 @@ int main(int argc, char **argv)
         if (number == 0 || number >= CALLS)
             exit(2);
         const struct call *call = &calls[number];
-        const struct lent *last = &lent[call->lent - 1];
+        size_t kept = call->lent - call->writes; /* how many buffers it may only read */
         uint64_t numbers[NUMBERS_MOST];
         /* Each buffer is tried against either fence, in every combination with the others. */
         for (size_t i = 0; i < call->lent; i++)
@@ -158,14 +89,14 @@ int main(int argc, char **argv)
         for (unsigned long i = 0; i < times; i++)
             told = call->make(lent, numbers);
         for (size_t i = 0; i < call->lent; i++)
-            changed |= has_changed(&lent[i], call->writes && &lent[i] == last);
+            changed |= has_changed(&lent[i], i >= kept && told.answer.number == 0);
         /* At once, so that a call that faults is the first without an answer. */
         uint8_t answer[sizeof told + sizeof changed];
         memcpy(answer, &told, call->told);
         answer[call->told] = changed;
         give(answer, call->told + sizeof changed);
-        if (call->writes)
-            give(last->bytes, last->count);
+        for (size_t i = kept; i < call->lent; i++)
+            give(lent[i].bytes, lent[i].count);
     }
     if (on_stack)
         tell_used();

@@ -1,5 +1,5 @@
-//! `drive CALL COUNT SEED COMMAND..` draws COUNT cases of CALL, which is allele, normal, plan, mark, count or
-//! mutated, from SEED, has the driver COMMAND make the calls of the C library, and holds each answer and
+//! `drive CALL COUNT SEED COMMAND..` draws COUNT cases of CALL, which is allele, normal, plan, mark, count, mark_all,
+//! entries, version or mutated, from SEED, has the driver COMMAND make the calls of the C library, and holds each answer and
 //! all memory lent to this package's own. A run of mark is made of rows of calls on one buffer, their
 //! plans among them; a run of mutated of all calls, with bytes changed in what they are lent.
 
@@ -11,7 +11,8 @@ use std::process::ExitCode;
 fn main() -> ExitCode {
     let arguments: Vec<String> = std::env::args().skip(1).collect();
     let Some((asked, count, seed, command)) = parsed(&arguments) else {
-        eprintln!("usage: drive allele|normal|plan|mark|count|mutated COUNT SEED COMMAND..");
+        eprintln!("usage: drive CALL COUNT SEED COMMAND..");
+        eprintln!("CALL: allele, normal, plan, mark, count, mark_all, entries, version or mutated");
         return ExitCode::from(2);
     };
     let mut tally = Tally::default();

@@ -19,7 +19,7 @@ impl Frames {
         let mut frame = call_number(&case.call).to_le_bytes().to_vec();
         let lent = case.lent();
         self.left.resize(self.left.len().max(lent.len()), None);
-        let last = lent.len() - 1;
+        let first_written = lent.len() - case.writes();
         for (place, (_, bytes)) in lent.into_iter().enumerate() {
             if self.left[place].as_ref() == Some(&bytes) {
                 frame.extend(AS_LEFT.to_le_bytes());
@@ -29,8 +29,8 @@ impl Frames {
                 self.left[place] = Some(bytes);
             }
         }
-        if writes(&case.call) {
-            self.left[last] = Some(case.expected.left.clone());
+        for (place, left) in (first_written..).zip(&case.expected.left) {
+            self.left[place] = Some(left.clone());
         }
         for number in case.numbers() {
             frame.extend((number as u64).to_le_bytes());
@@ -46,11 +46,10 @@ fn call_number(call: &Call) -> u32 {
         Call::Plan { .. } => 3,
         Call::Mark { .. } => 4,
         Call::Count { .. } => 5,
+        Call::MarkAll { .. } => 6,
+        Call::Entries { .. } => 7,
+        Call::Version => 8,
     }
-}
-
-fn writes(call: &Call) -> bool {
-    !matches!(call, Call::Allele { .. } | Call::Count { .. })
 }
 
 /// What the driver tells of a call that answers as many values and leaves as many bytes as are expected;
@@ -63,8 +62,11 @@ pub fn read_told(output: &mut impl Read, expected: &Told) -> Option<Told> {
     let [row, list, line] = [number()?, number()?, number()?];
     let values = expected.answer.values.iter().map(|_| number()).collect::<Option<Vec<u32>>>()?;
     let answer = Answer { number: row, list, line, values };
-    let (mut changed, mut left) = ([0], vec![0; expected.left.len()]);
-    output.read_exact(&mut changed).ok()?;
-    output.read_exact(&mut left).ok()?;
+    let mut bytes = |count| {
+        let mut bytes = vec![0; count];
+        output.read_exact(&mut bytes).ok().map(|()| bytes)
+    };
+    let changed = bytes(1)?;
+    let left = expected.left.iter().map(|left| bytes(left.len())).collect::<Option<Vec<_>>>()?;
     Some(Told { answer, changed: changed != [0], left })
 }

@@ -1,7 +1,7 @@
 //! Kinds of answers: a run is to come upon each kind that its call has.
 
 use super::case::{Call, Case};
-use super::draw::Asked;
+use super::draw::{Asked, CALLS};
 use crate::card::ENTRIES_MOST;
 use crate::normal_loop::normal_loop;
 use std::fmt::{self, Display};
@@ -23,6 +23,11 @@ const OF_MARK: [(u32, &str); 5] =
     [(0, "up to 9"), (0, "10 or 11"), (0, "12"), (0, "13"), (0, "above 13")];
 const OF_COUNT: [(u32, &str); 4] =
     [(0, "no entry"), (0, "marks alone"), (0, "other bytes"), (0, "full")];
+const OF_MARK_ALL: [(u32, &str); 4] =
+    [(0, "no entry"), (0, "decided"), (0, "some undecided"), (0, "full")];
+const OF_ENTRIES: [(u32, &str); 5] =
+    [(0, "no entry"), (0, "one list"), (0, "both lists"), (0, "equal POS"), (0, "full")];
+const OF_VERSION: [(u32, &str); 1] = [(0, "the header's")];
 
 /// The kinds that the calls of a run can answer.
 pub fn kinds(asked: Asked) -> Vec<Kind> {
@@ -32,6 +37,9 @@ pub fn kinds(asked: Asked) -> Vec<Kind> {
         Asked::Plan => ("plan", &OF_PLAN, &[1, 2], 2),
         Asked::Mark => ("mark", &OF_MARK, &[1, 2, 16, 17], 2),
         Asked::Count => ("count", &OF_COUNT, &[1, 2], 2),
+        Asked::MarkAll => ("mark_all", &OF_MARK_ALL, &[1, 2], 2),
+        Asked::Entries => ("entries", &OF_ENTRIES, &[1, 2], 2),
+        Asked::Version => ("version", &OF_VERSION, &[], 0),
         Asked::Mutated => return kinds_of_small_lists(),
     };
     let answered = answered.iter().map(|(list, what)| (0, *list, *what));
@@ -43,8 +51,7 @@ pub fn kinds(asked: Asked) -> Vec<Kind> {
 
 /// Those of every call, but for as many entries as two lists can have.
 fn kinds_of_small_lists() -> Vec<Kind> {
-    let calls = [Asked::Allele, Asked::Normal, Asked::Plan, Asked::Mark, Asked::Count];
-    calls.into_iter().flat_map(kinds).filter(|kind| kind.what != "full").collect()
+    CALLS.into_iter().flat_map(|(_, call)| kinds(call)).filter(|kind| kind.what != "full").collect()
 }
 
 impl Kind {
@@ -61,6 +68,11 @@ impl Kind {
             Call::Mark { .. } => ("mark", ""),
             Call::Count { texts, .. } if answer.number == 0 => ("count", counted(case, texts)),
             Call::Count { .. } => ("count", ""),
+            Call::MarkAll { texts, .. } if answer.number == 0 => ("mark_all", marked(case, texts)),
+            Call::MarkAll { .. } => ("mark_all", ""),
+            Call::Entries { texts, .. } if answer.number == 0 => ("entries", listed(case, texts)),
+            Call::Entries { .. } => ("entries", ""),
+            Call::Version => ("version", OF_VERSION[0].1),
         };
         let what = if answer.number == 0 { what } else { "" };
         Kind { call, number: answer.number, list: answer.list, what }
@@ -71,7 +83,7 @@ fn normal(case: &Case, text: &[u8]) -> &'static str {
     let length = case.expected.answer.values[0] as usize;
     let list = crate::read(&case.reference, &case.name, 1, text).expect("accepted");
     let pos = list.records.iter().map(|record| normal_loop(&case.reference, &record.entry).pos);
-    let what = if case.expected.left[..length] == *text {
+    let what = if case.expected.left[0][..length] == *text {
         0
     } else if !pos.is_sorted() {
         1
@@ -83,9 +95,14 @@ fn normal(case: &Case, text: &[u8]) -> &'static str {
     OF_NORMAL[what].1
 }
 
-fn counted(case: &Case, texts: &[Vec<u8>; 2]) -> &'static str {
+/// POS of each entry of list 1 and of list 2.
+fn positions(case: &Case, texts: &[Vec<u8>; 2]) -> [Vec<usize>; 2] {
     let read = |text| crate::read(&case.reference, &case.name, 1, text).expect("accepted");
-    let entries: usize = texts.iter().map(|text| read(text).records.len()).sum();
+    texts.each_ref().map(|text| read(text).records.iter().map(|record| record.entry.pos).collect())
+}
+
+fn counted(case: &Case, texts: &[Vec<u8>; 2]) -> &'static str {
+    let entries: usize = positions(case, texts).iter().map(Vec::len).sum();
     let marks: u32 = case.expected.answer.values.iter().sum();
     let what = match entries {
         0 => 0,
@@ -94,6 +111,29 @@ fn counted(case: &Case, texts: &[Vec<u8>; 2]) -> &'static str {
         _ => 2,
     };
     OF_COUNT[what].1
+}
+
+fn marked(case: &Case, texts: &[Vec<u8>; 2]) -> &'static str {
+    let entries = positions(case, texts).iter().map(Vec::len).sum();
+    let what = match entries {
+        0 => 0,
+        ENTRIES_MOST => 3,
+        _ if case.expected.left[1][..entries].contains(&b'?') => 2,
+        _ => 1,
+    };
+    OF_MARK_ALL[what].1
+}
+
+fn listed(case: &Case, texts: &[Vec<u8>; 2]) -> &'static str {
+    let [first, second] = positions(case, texts);
+    let what = match (first.len(), second.len()) {
+        (0, 0) => 0,
+        (0, _) | (_, 0) => 1,
+        (one, two) if one + two == ENTRIES_MOST => 4,
+        _ if first.iter().any(|pos| second.contains(pos)) => 3,
+        _ => 2,
+    };
+    OF_ENTRIES[what].1
 }
 
 fn clusters(count: u32) -> usize {

@@ -2,6 +2,7 @@
 //! to this package's own.
 //!
 //! - `case` is one call with all that is lent to it, and what it must come to
+//! - `expected` is what this package answers to it and leaves
 //! - `draw` draws case after case from a seed
 //! - `frame` is what is sent to the driver for a case, and what it tells
 //! - `pipe` sends the cases to the driver and takes its answers
@@ -10,6 +11,7 @@
 
 pub mod case;
 pub mod draw;
+mod expected;
 pub mod frame;
 pub mod kind;
 pub mod pipe;

@@ -84,17 +84,18 @@ impl Display for Difference {
         writeln!(out, "  expected {:?}", expected.answer)?;
         let Some(told) = told else { return writeln!(out, "  the driver ended without an answer") };
         writeln!(out, "  answered {:?}, bytes changed: {}", told.answer, told.changed)?;
-        let mut pairs = expected.left.iter().zip(&told.left);
-        if let Some(at) = pairs.position(|(expected, told)| expected != told) {
+        for (expected, told) in expected.left.iter().zip(&told.left) {
+            let mut pairs = expected.iter().zip(told);
+            let Some(at) = pairs.position(|(expected, told)| expected != told) else { continue };
             let part = |left: &[u8]| left[at..left.len().min(at + 40)].escape_ascii().to_string();
-            writeln!(out, "  expected to be left from byte {at} on: {}", part(&expected.left))?;
-            writeln!(out, "  left there: {}", part(&told.left))?;
+            writeln!(out, "  expected to be left from byte {at} on: {}", part(expected))?;
+            writeln!(out, "  left there: {}", part(told))?;
         }
         Ok(())
     }
 }
 
-/// A text by its lines, a plan by its records, and anything else by its bytes.
+/// A text by its lines, a plan and entries by their records, and anything else by its bytes.
 fn shown(what: &str, bytes: &[u8]) -> String {
     let cut = if bytes.len() > BYTES_SHOWN { " .." } else { "" };
     let first = &bytes[..bytes.len().min(BYTES_SHOWN)];
@@ -107,6 +108,12 @@ fn shown(what: &str, bytes: &[u8]) -> String {
         "plan" => {
             let records = bytes.chunks(8).take(LINES_SHOWN);
             records.map(|part| format!(" {}+{}", number(&part[..4]), number(&part[4..]))).collect()
+        }
+        "entries" => {
+            let records = bytes.chunks(16).take(LINES_SHOWN);
+            records
+                .map(|part| format!(" {:?}", [0, 4, 8, 12].map(|at| number(&part[at..at + 4]))))
+                .collect()
         }
         _ => format!("{}{cut}", first.escape_ascii()),
     }

@@ -1,22 +1,17 @@
 //! A row of calls on one buffer of marks: the plan, then its clusters in any order, with repeats and
 //! other calls between, of which most are refused.
 
+use super::cost::{strings, COSTLY, STRINGS_MOST};
 use super::two_lists::{any_length, any_plan, any_record, lists, TwoLists};
 use super::{any_room, beyond};
 use crate::card::ENTRIES_MOST;
-use crate::clusters::{lists_of, DECIDED_MOST};
 use crate::drawn::list::Drawn;
 use crate::drawn::random::Random;
 use crate::drive::case::{Call, Case};
-use crate::merged::merged;
-use crate::{Cluster, Entry};
+use crate::Cluster;
 
 /// Each cluster is asked for, but not more calls than these are made for them.
 const ASKED_MOST: usize = 8;
-
-/// A cluster of more strings of choices without an overlap is asked for only once in `COSTLY` times.
-const STRINGS_MOST: usize = 7_000;
-const COSTLY: usize = 20;
 
 /// The calls so far, and the plan and the marks as they left them.
 struct Row {
@@ -55,7 +50,7 @@ impl Row {
         let TwoLists { reference, name, texts } = two;
         let call = Call::Mark { texts, plan, cluster, marks: self.marks.clone() };
         let case = Case::new(&reference, &name, call);
-        self.marks = case.expected.left.clone();
+        self.marks = case.expected.left[0].clone();
         self.cases.push(case);
     }
 
@@ -75,7 +70,7 @@ impl Row {
 
     /// Each cluster once, some again, in any order; where there is none, the first of them.
     fn order(&self, random: &mut Random, clusters: usize) -> Vec<usize> {
-        let strings = self.strings(clusters);
+        let strings = strings(&self.two);
         let mut order: Vec<usize> = (0..clusters).collect();
         order.retain(|cluster| strings[*cluster] <= STRINGS_MOST || random.once_in(COSTLY));
         for _ in 0..random.below(3).min(order.len()) {
@@ -89,33 +84,6 @@ impl Row {
             order = vec![0; 3];
         }
         order
-    }
-
-    /// For each cluster how many strings of choices have no overlap: so many are tried for it, none
-    /// for an undecided one.
-    fn strings(&self, clusters: usize) -> Vec<usize> {
-        let TwoLists { reference, name, texts } = &self.two;
-        let read = |text: &Vec<u8>| crate::read(reference, name, 1, text);
-        let entries = texts.each_ref().map(|text| read(text).map_or(vec![], |list| list.entries()));
-        let lists = entries.each_ref().map(Vec::as_slice);
-        let items = merged(lists);
-        let strings = |cluster: &Cluster| match cluster.count as usize > DECIDED_MOST {
-            true => 0,
-            false => {
-                lists_of(lists, &items, *cluster).map(|list| strings_from(list, 0)).iter().product()
-            }
-        };
-        self.plan[..clusters].iter().map(strings).collect()
-    }
-}
-
-/// The strings of choices for entries of one list, none of which may start before `end`.
-fn strings_from(entries: &[Entry], end: usize) -> usize {
-    let Some((entry, rest)) = entries.split_first() else { return 1 };
-    let left_out = strings_from(rest, end);
-    match entry.start() >= end {
-        true => left_out + 2 * strings_from(rest, entry.end()),
-        false => left_out,
     }
 }
 

@@ -3,11 +3,13 @@
 //!
 //! - `spoil` breaks what is lent
 //! - `one_list` draws the calls of one list, `allele` and `normal`
-//! - `two_lists` draws `plan` and `count`, `marks` whole rows of calls of `mark` on one buffer
+//! - `two_lists` draws `plan` and `count`, `whole_pair` draws `mark_all` and `entries`, `marks` whole rows of calls of
+//!   `mark` on one buffer; `cost` says how much there is to search
 //! - `mutated` draws rows of all calls, with bytes changed
 //! - `folders` draws what programs compare, counts and normalise read, `names` what they are given, `runs` what
 //!   lot_report reads
 
+mod cost;
 pub mod folders;
 mod marks;
 mod mutated;
@@ -16,8 +18,9 @@ mod one_list;
 pub mod runs;
 mod spoil;
 mod two_lists;
+mod whole_pair;
 
-use super::case::Case;
+use super::case::{Call, Case};
 use crate::drawn::random::Random;
 
 /// The call that a run is about.
@@ -28,21 +31,29 @@ pub enum Asked {
     Plan,
     Mark,
     Count,
+    MarkAll,
+    Entries,
+    Version,
     /// All of them, with bytes changed in what they are lent.
     Mutated,
 }
 
+/// Each call by its name.
+pub const CALLS: [(&str, Asked); 8] = [
+    ("allele", Asked::Allele),
+    ("normal", Asked::Normal),
+    ("plan", Asked::Plan),
+    ("mark", Asked::Mark),
+    ("count", Asked::Count),
+    ("mark_all", Asked::MarkAll),
+    ("entries", Asked::Entries),
+    ("version", Asked::Version),
+];
+
 impl Asked {
     pub fn named(name: &str) -> Option<Asked> {
-        match name {
-            "allele" => Some(Asked::Allele),
-            "normal" => Some(Asked::Normal),
-            "plan" => Some(Asked::Plan),
-            "mark" => Some(Asked::Mark),
-            "count" => Some(Asked::Count),
-            "mutated" => Some(Asked::Mutated),
-            _ => None,
-        }
+        let mut all = CALLS.into_iter().chain([("mutated", Asked::Mutated)]);
+        all.find(|(call, _)| *call == name).map(|(_, asked)| asked)
     }
 }
 
@@ -55,6 +66,9 @@ pub fn draw(asked: Asked, seed: u64, number: u64) -> Vec<Case> {
         Asked::Plan => vec![two_lists::plan(random)],
         Asked::Mark => marks::row(random),
         Asked::Count => vec![two_lists::count(random)],
+        Asked::MarkAll => vec![whole_pair::mark_all(random)],
+        Asked::Entries => vec![whole_pair::entries(random)],
+        Asked::Version => vec![Case::new(b"", b"", Call::Version)],
         Asked::Mutated => mutated::row(random),
     }
 }

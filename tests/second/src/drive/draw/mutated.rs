@@ -4,6 +4,7 @@
 use super::marks::change_plan;
 use super::one_list::{any_allele, room_for};
 use super::two_lists::{any_length, any_marks, any_plan, TwoLists};
+use super::whole_pair::any_entries;
 use super::{any_room, beyond};
 use crate::card::ENTRIES_MOST;
 use crate::drawn::list::Drawn;
@@ -65,24 +66,34 @@ impl Row {
         let TwoLists { reference, name, texts } = &two;
         let list = random.below(2);
         let text = texts[list].clone();
-        let call = match random.below(5) {
-            0 => {
+        let call = match random.below(36) {
+            0..=4 => {
                 let (entry, allele) = any_allele(random, self.records[list]);
                 Call::Allele { text, entry, allele }
             }
-            1 => {
+            5..=9 => {
                 let out = room_for(random, &text);
                 Call::Normal { text, out }
             }
-            2 => {
-                let mut plan = self.plan.clone();
-                plan.resize(any_length(random), Cluster::default());
-                Call::Plan { texts: texts.clone(), plan }
+            10..=14 => Call::Plan { texts: texts.clone(), plan: self.any_plan(random) },
+            15..=19 => self.mark(random, &two),
+            20..=24 => count(random, &two),
+            25..=29 => {
+                let (plan, mut marks) = (self.any_plan(random), self.marks.clone());
+                marks.resize(any_length(random), 0);
+                Call::MarkAll { texts: texts.clone(), plan, marks }
             }
-            3 => self.mark(random, &two),
-            _ => count(random, &two),
+            30..=34 => Call::Entries { texts: texts.clone(), entries: any_entries(random) },
+            _ => Call::Version,
         };
         Case::new(reference, name, call)
+    }
+
+    /// Room for a plan, with the plan of the lists as they were in it.
+    fn any_plan(&self, random: &mut Random) -> Vec<Cluster> {
+        let mut plan = self.plan.clone();
+        plan.resize(any_length(random), Cluster::default());
+        plan
     }
 
     /// One to four changes: mostly in a text, else in the reference or the name.

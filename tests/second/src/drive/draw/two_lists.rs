@@ -53,7 +53,7 @@ pub fn lists(random: &mut Random) -> [Drawn; 2] {
 }
 
 /// Half of them are as drawn, the others broken.
-fn two_lists(random: &mut Random) -> TwoLists {
+pub fn two_lists(random: &mut Random) -> TwoLists {
     let lists = lists(random);
     match random.once_in(2) {
         true => TwoLists::of(&lists),
@@ -93,14 +93,18 @@ pub fn any_plan(random: &mut Random) -> Vec<Cluster> {
 }
 
 pub fn any_record(random: &mut Random) -> Cluster {
-    let mut number = || match random.once_in(2) {
-        true => random.below(20) as u32,
-        false => random.below(1 << 32) as u32,
-    };
-    Cluster { first: number(), count: number() }
+    Cluster { first: any_number(random), count: any_number(random) }
 }
 
-/// The least size of a plan and of marks, mostly; else larger, or smaller by one or by more.
+/// A small number, or any.
+pub fn any_number(random: &mut Random) -> u32 {
+    match random.once_in(2) {
+        true => random.below(20) as u32,
+        false => random.below(1 << 32) as u32,
+    }
+}
+
+/// The least size of a plan, of marks and of entries, mostly; else larger, or smaller by one or by more.
 pub fn any_length(random: &mut Random) -> usize {
     match random.below(40) {
         0 => ENTRIES_MOST - 1,
