@@ -1,13 +1,17 @@
-//! `full_pair FOLDER all|none|TENTH [twelve]` writes to FOLDER two lists on 65,535 bases, as reference.txt, first.vcf, second.vcf, and
+//! `full_pair FOLDER all|none|TENTH|snvs [twelve]` writes to FOLDER two lists on 65,535 bases, as reference.txt, first.vcf, second.vcf, and
 //! reference.fa, the same bases in bcftools' form. Prints how many entries and clusters they have.
 //!
 //! The bases have 450 repeats, evenly over them, with drawn bases between. At each stands a cluster of 1 to 4 entries, mostly two, one
 //! in each list: the same change in two places of the repeat, or in one. TENTH, 0 to 9, takes those clusters only whose number ends
 //! so, `none` takes none. With `twelve` there is one cluster more, of twelve entries, no two of which overlap.
+//!
+//! `snvs` takes none of them, and puts as many substitutions of one base into each list as it can have, 512, evenly over the bases: the
+//! same in both, so that each pair is a cluster.
 
 use second::clusters::clusters;
 use second::drawn::lists::{all_lines, contig_header};
 use second::drawn::random::Random;
+use second::list::RECORDS_MOST;
 use second::Entry;
 use std::path::Path;
 use std::process::ExitCode;
@@ -32,7 +36,7 @@ fn main() -> ExitCode {
         [folder, part] => (folder, part, false),
         [folder, part, "twelve"] => (folder, part, true),
         _ => {
-            eprintln!("usage: full_pair FOLDER all|none|TENTH [twelve]");
+            eprintln!("usage: full_pair FOLDER all|none|TENTH|snvs [twelve]");
             return ExitCode::from(2);
         }
     };
@@ -47,6 +51,12 @@ fn main() -> ExitCode {
             expected += 1;
             add(&mut lists, drawn);
         }
+    }
+    if part == "snvs" {
+        let snv = |number| substitution(&reference, number * (BASES / RECORDS_MOST), 1);
+        let snvs: Vec<Entry> = (0..RECORDS_MOST).map(snv).collect();
+        expected += snvs.len();
+        add(&mut lists, [snvs.clone(), snvs]);
     }
     if with_twelve {
         add(&mut lists, twelve(&reference));
