@@ -8,7 +8,7 @@ use std::path::Path;
 use std::process::{Command, Stdio};
 
 /// One in so many folders, at least, is to be accepted, and one in so many refused.
-const ONCE_IN: u64 = 4;
+const ONCE_IN: u64 = 10;
 
 /// A folder for the program to run in, and what it is to print there.
 pub struct Folder {
