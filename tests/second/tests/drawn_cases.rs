@@ -34,7 +34,7 @@ fn written(case: &Case) -> Vec<usize> {
 fn nothing_is_left_changed_but_what_an_answered_call_says() {
     for asked in [Asked::Normal, Asked::Plan, Asked::Mark, Asked::MarkAll, Asked::Entries] {
         let mut seen = Seen::default();
-        for case in cases(asked, 4_000) {
+        for case in cases(asked, 1_000) {
             let lent = case.lent();
             let lent = &lent[lent.len() - case.writes()..];
             assert_eq!(lent.len(), case.expected.left.len());
@@ -49,23 +49,23 @@ fn nothing_is_left_changed_but_what_an_answered_call_says() {
             seen.note("refused", is_refused);
             seen.note("answered, and changed", changed > 0);
         }
-        seen.assert_each(500);
+        seen.assert_each(120);
     }
 }
 
 #[test]
 fn whole_pairs_are_marked_with_undecided_clusters_beside_decided_ones() {
     let (mut beside, mut several) = (0, 0);
-    for case in cases(Asked::MarkAll, 10_000) {
+    for case in cases(Asked::MarkAll, 2_000) {
         let answer = &case.expected.answer;
         let Call::MarkAll { plan, .. } = &case.call else { panic!("another call") };
         assert_eq!(case.lent()[4].1, plan_bytes(plan));
-        let marks = &case.expected.left[1];
-        let is_undecided = answer.number == 0 && written(&case)[1] > 0 && {
-            marks[..written(&case)[1]].contains(&b'?')
-        };
-        beside += usize::from(is_undecided && answer.values[1] > 0);
+        if answer.number != 0 {
+            continue;
+        }
+        let marks = &case.expected.left[1][..written(&case)[1]];
+        beside += usize::from(marks.contains(&b'?') && answer.values[1] > 0);
         several += usize::from(answer.values[0] > 1);
     }
-    assert!(beside > 10 && several > 1_000, "{beside} and {several}");
+    assert!(beside > 20 && several > 200, "{beside} and {several}");
 }

@@ -5,7 +5,7 @@ mod common;
 
 use common::random::Random;
 use second::drawn::list::Drawn;
-use second::drawn::pairs::{apart, crowd, pair, strangers};
+use second::drawn::pairs::{apart, crowd, pair, strangers, worlds_and_crowd};
 use second::drawn::sizes::{sized_list, sized_reference, sized_text};
 use second::drive::case::{Call, Case};
 use second::drive::draw::{draw, Asked, CALLS};
@@ -53,7 +53,8 @@ fn sizes_are_met_and_one_too_many_refused() {
 fn two_lists_as_drawn_are_accepted_on_one_reference() {
     for seed in 820_000..820_400 {
         let random = &mut Random::new(seed);
-        for [first, second] in [pair(random, 20), crowd(random), strangers(random), apart(random)] {
+        let drawn = [pair(random, 20), crowd(random), strangers(random), apart(random)];
+        for [first, second] in drawn.into_iter().chain([worlds_and_crowd(random)]) {
             assert_eq!((&first.reference, &first.name), (&second.reference, &second.name));
             assert_eq!(read(&first), Ok(first.records.len()));
             assert_eq!(read(&second), Ok(second.records.len()));
@@ -83,7 +84,7 @@ fn every_answer_occurs_and_no_other_counts_as_the_same() {
                 (0, Some(byte)) => *byte ^= 1,
                 _ => other.answer.values[number % values] ^= 1,
             }
-            changed.note(Case::new(&case.reference, &case.name, case.call.clone()), Some(other));
+            changed.note(case.clone(), Some(other));
             let told = case.expected.clone();
             same.note(case, Some(told));
         }

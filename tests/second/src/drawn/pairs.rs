@@ -16,9 +16,20 @@ pub fn pair(random: &mut Random, most: usize) -> [Drawn; 2] {
 
 /// The lists of several worlds, one behind the other: mostly each gives a cluster or more.
 pub fn worlds(random: &mut Random) -> [Drawn; 2] {
+    let worlds = (0..random.between(2, 40)).map(|_| World::new(random, 6)).collect();
+    joined(random, worlds)
+}
+
+/// The same with a crowd among a few worlds: mostly a cluster that is undecided, or just not, beside others.
+pub fn worlds_and_crowd(random: &mut Random) -> [Drawn; 2] {
+    let mut worlds: Vec<World> = (0..random.between(1, 6)).map(|_| World::new(random, 6)).collect();
+    worlds.insert(random.between(0, worlds.len()), crowd_world(random));
+    joined(random, worlds)
+}
+
+fn joined(random: &mut Random, worlds: Vec<World>) -> [Drawn; 2] {
     let (mut reference, mut lists) = (Vec::new(), [Vec::new(), Vec::new()]);
-    for _ in 0..random.between(2, 40) {
-        let world = World::new(random, 6);
+    for world in worlds {
         for (list, entries) in lists.iter_mut().zip(world.lists) {
             let moved = |entry: Entry| Entry { pos: entry.pos + reference.len(), ..entry };
             list.extend(entries.into_iter().map(moved));
@@ -38,6 +49,11 @@ pub fn strangers(random: &mut Random) -> [Drawn; 2] {
 
 /// A few entries, each many times, 11 to 14 in all: mostly they are one cluster.
 pub fn crowd(random: &mut Random) -> [Drawn; 2] {
+    let World { reference, lists } = crowd_world(random);
+    pair_of(random, reference, lists)
+}
+
+fn crowd_world(random: &mut Random) -> World {
     let reference = random_reference(random);
     let kinds: Vec<Entry> =
         (0..random.between(1, 3)).map(|_| random_entry(random, &reference)).collect();
@@ -48,7 +64,7 @@ pub fn crowd(random: &mut Random) -> [Drawn; 2] {
     for list in &mut lists {
         list.sort_by_key(|entry| entry.pos);
     }
-    pair_of(random, reference, lists)
+    World { reference, lists }
 }
 
 /// As many entries as two lists can have, or a few fewer, each of them a cluster of its own.

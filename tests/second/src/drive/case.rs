@@ -5,6 +5,7 @@ use super::expected::expected;
 use crate::{Cluster, Listed};
 
 /// What every call is lent, the call itself, and what it must come to.
+#[derive(Clone)]
 pub struct Case {
     pub reference: Vec<u8>,
     pub name: Vec<u8>,

@@ -2,15 +2,24 @@
 
 use super::any_room;
 use super::cost::{strings, COSTLY, STRINGS_MOST};
-use super::two_lists::{any_length, any_number, any_plan, two_lists};
+use super::two_lists::{any_length, any_number, any_plan, two_lists, TwoLists};
+use crate::drawn::pairs::worlds_and_crowd;
 use crate::drawn::random::Random;
 use crate::drive::case::{Call, Case};
 use crate::Listed;
 
+/// As for `plan`, but for a few that have undecided clusters beside others.
+fn any_lists(random: &mut Random) -> TwoLists {
+    match random.once_in(20) {
+        true => TwoLists::of(&worlds_and_crowd(random)),
+        false => two_lists(random),
+    }
+}
+
 /// Lists with much to search are drawn again, mostly.
 pub fn mark_all(random: &mut Random) -> Case {
     let two = loop {
-        let two = two_lists(random);
+        let two = any_lists(random);
         if strings(&two).iter().sum::<usize>() <= STRINGS_MOST || random.once_in(COSTLY) {
             break two;
         }
@@ -21,7 +30,7 @@ pub fn mark_all(random: &mut Random) -> Case {
 }
 
 pub fn entries(random: &mut Random) -> Case {
-    let two = two_lists(random);
+    let two = any_lists(random);
     let entries = any_entries(random);
     Case::new(&two.reference, &two.name, Call::Entries { texts: two.texts, entries })
 }
