@@ -4,7 +4,7 @@
 mod common;
 
 use common::seen::Seen;
-use second::drive::case::{plan_bytes, Call, Case};
+use second::drive::case::{Call, Case};
 use second::drive::draw::{draw, Asked};
 
 fn cases(asked: Asked, count: usize) -> impl Iterator<Item = Case> {
@@ -58,8 +58,6 @@ fn whole_pairs_are_marked_with_undecided_clusters_beside_decided_ones() {
     let (mut beside, mut several) = (0, 0);
     for case in cases(Asked::MarkAll, 2_000) {
         let answer = &case.expected.answer;
-        let Call::MarkAll { plan, .. } = &case.call else { panic!("another call") };
-        assert_eq!(case.lent()[4].1, plan_bytes(plan));
         if answer.number != 0 {
             continue;
         }
