@@ -15,11 +15,11 @@ use Rattle.clusters.specs.declared.gap.Current.{Current}
 use Rattle.clusters.specs.declared.gap.Size.{Size}
 use Rattle.clusters.specs.declared.heads.Heads.{Heads}
 use Rattle.clusters.specs.declared.item.Item.{Item}
-use Rattle.clusters.specs.Gap.{more, begin, cut?}
+use Rattle.clusters.specs.Gap.{more, begin, cut?, Kept}
 use Rattle.clusters.specs.Heads.{Ready, itemsFrom, done?, nextItem, moved, passed, firstCount, foundAt}
 use Rattle.clusters.specs.Item.{itemSize}
 use Rattle.clusters.proofs.HeadsLaws.{items-step, items-few, ready-moved, next-sound, passed-next}
-use Rattle.clusters.proofs.WalkLaws.{Kept, kept-begin, kept-more, leftFrom, left-more, count-begin}
+use Rattle.clusters.proofs.WalkLaws.{kept-begin, kept-more, leftFrom, left-more, count-begin}
 
 pub record Walked (reference first second : List ℕ) (c0 : Current) (k0 : Heads) (c : Current) (k : Heads) (n : ℕ) : Type 0 where
   pub left : n + leftFrom reference first second c k ≡ leftFrom reference first second c0 k0 + 1

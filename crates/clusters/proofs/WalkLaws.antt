@@ -1,7 +1,7 @@
 -- Laws of a walk through the merged order: what a step does to the current cluster.
 --     size-made                               the sizes by the entry's numbers, put together
 --     item-size                               the numbers of a sound entry are the sizes that the gap rule reads
---     Kept, kept-begin, kept-more             b lies inside the reference, and the sums are at most 64 an entry
+--     kept-begin, kept-more                   b lies inside the reference, and the sums are at most 64 an entry
 --     variants-step                           the entries from the cursors on, as matching reads them
 --     count-begin, left-cut, left-more, left-done
 --                                             how many entries the cluster that begins there has; how many more the current one has
@@ -22,7 +22,7 @@ use Rattle.clusters.specs.declared.gap.Current.{Current}
 use Rattle.clusters.specs.declared.gap.Size.{Size}
 use Rattle.clusters.specs.declared.heads.Heads.{Heads}
 use Rattle.clusters.specs.declared.item.Item.{Item}
-use Rattle.clusters.specs.Gap.{sizeOf, more, nothing, begin, cut?}
+use Rattle.clusters.specs.Gap.{sizeOf, more, nothing, begin, cut?, Kept}
 use Rattle.clusters.specs.Heads.{Ready, done?, nextItem, moved, variantsFrom, firstCount}
 use Rattle.clusters.specs.Item.{startOf, variant, itemSize}
 use Rattle.clusters.specs.Plan.{firstOf, cardPlan}
@@ -37,12 +37,6 @@ only-le false n = omega arith
 pub size-made : (i : Item) (start : Place) (shrink grow : ℕ) → start ≡ startOf (i .entry) → shrink ≡ itemSize i .shrink → grow ≡ itemSize i .grow
     → record { side = i .side; start = start; end = record { 0 = start .0 + i .entry .reference .len }; shrink = shrink; grow = grow } ≡ itemSize i
 size-made i start shrink grow e f g = rw (e, f, g)
-
--- What is kept of a cluster of n entries.
-pub record Kept (reference : List ℕ) (n : ℕ) (c : Current) : Type 0 where
-  pub inside : c .b .0 ≤ length reference
-  pub small1 : (c .a1 ≤ longestAllele * n) × (c .b1 ≤ longestAllele * n)
-  pub small2 : (c .a2 ≤ longestAllele * n) × (c .b2 ≤ longestAllele * n)
 
 module _ (reference first second : List ℕ) (i : Item) (s : SoundItem reference first second i) where
   pub item-size : sizeOf cardRules (variant reference first second i) ≡ itemSize i

@@ -4,13 +4,15 @@
 -- Assumes nothing: these are definitions.
 use mathlib.Core.Bool.{Bool, Bool·beq, not, _&&_, _||_}
 use mathlib.Core.List.{List}
-use Prim.Native.Nat.{ℕ, _+_, _-_, _^_, _<_, max}
+use Prim.Native.Nat.{ℕ, _+_, _-_, _*_, _^_, _≤_, _<_, max}
 use lib.Dec.{eqb, leb, ltb}
+use lib.ListN.{length}
 use Rattle.bases.specs.declared.place.Place.{Place}
 use Rattle.bases.specs.Period.{anyPeriod?}
 use Rattle.donors.specs.Donor.{part}
 use Rattle.donors.specs.Items.{only}
 use Rattle.donors.specs.Rules.{Rules, list1, list2}
+use Rattle.vcf.specs.Allele.{longestAllele}
 use Rattle.clusters.specs.declared.gap.Size.{Size}
 use Rattle.clusters.specs.declared.gap.Current.{Current}
 
@@ -57,3 +59,9 @@ gapCuts? R g b p = eqb g 0 || (ltb g (p .0 - b .0) && not (anyPeriod? g (part R 
 -- The current cluster is cut before an item that starts at p.
 abbrev pub cut? : List ℕ → Current → Place → Bool
 cut? R c p = leb (c .b .0) (p .0) && gapCuts? R (reachOf c) (c .b) p
+
+-- What is so of the current cluster, where it has at most n entries: b lies inside the reference, and no sum is above so much an entry.
+pub record Kept (reference : List ℕ) (n : ℕ) (c : Current) : Type 0 where
+  pub inside : c .b .0 ≤ length reference
+  pub small1 : (c .a1 ≤ longestAllele * n) × (c .b1 ≤ longestAllele * n)
+  pub small2 : (c .a2 ≤ longestAllele * n) × (c .b2 ≤ longestAllele * n)

@@ -3,6 +3,8 @@ pub mod Gap
 pub mod Heads
 pub mod Item
 pub mod Lent
+pub mod Listed
+pub mod Listing
 pub mod Markable
 pub mod Marks
 pub mod Merged

@@ -3,7 +3,7 @@ ghost use mathlib.Core.Path.{_≡_};
 ghost use Prim.Native.Nat.{_+_, _≤_, _<_, _^_};
 ghost use lib.ListN.{length};
 ghost use Rattle.bases.specs.Letter.{basesOf};
-ghost use Rattle.clusters.specs.Gap.{more, Adds, begin, reachOf, cut?};
+ghost use Rattle.clusters.specs.Gap.{more, Adds, nothing, begin, reachOf, cut?};
 use bases::period::has_any_period;
 use bases::place::Place;
 
@@ -52,18 +52,24 @@ pub fn more(current: Current, size: Size) -> Current
     }
 }
 
-// A cluster begins with this entry: b and the sums begin again.
-pub fn begin(size: Size) -> Current
-    ensures { λ r. ⌜ r ≡ begin size ⌝ }
+// No entry yet. Before any entry the rule cuts.
+pub fn nothing() -> Current
+    ensures { λ r. ⌜ r ≡ nothing ⌝ }
 {
-    let nothing = Current {
+    Current {
         b: Place(0),
         a1: 0,
         b1: 0,
         a2: 0,
         b2: 0,
-    };
-    more(nothing, size)
+    }
+}
+
+// A cluster begins with this entry: b and the sums begin again.
+pub fn begin(size: Size) -> Current
+    ensures { λ r. ⌜ r ≡ begin size ⌝ }
+{
+    more(nothing(), size)
 }
 
 // g: by how much the two lists' donors can come to be apart.

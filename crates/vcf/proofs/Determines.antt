@@ -20,6 +20,8 @@ use Rattle.vcf.proofs.entry.entry_at.Kinds as entry-at-kinds
 use Rattle.vcf.proofs.entry.entry_at.Reads as entry-at
 use Rattle.vcf.proofs.entry.pos_at.Kinds as pos-at-kinds
 use Rattle.vcf.proofs.entry.pos_at.Reads as pos-at
+use Rattle.vcf.proofs.entry.lines_above.Kinds as lines-above-kinds
+use Rattle.vcf.proofs.entry.lines_above.Reads as lines-above
 use Rattle.vcf.proofs.entry.next_line.Kinds as next-line-kinds
 use Rattle.vcf.proofs.entry.next_line.Reads as next-line
 use Rattle.vcf.proofs.entry.record_at.Kinds as record-at-kinds
@@ -77,6 +79,9 @@ next-line-determines κs a z z′ e e′ p q = p ∙ sym q
 
 pub records-at-determines : OneResult 1 records-at-kinds.ps records-at-kinds.r records-at.Post
 records-at-determines κs a z z′ e e′ p q = p ∙ sym q
+
+pub lines-above-determines : OneResult 1 lines-above-kinds.ps lines-above-kinds.r lines-above.Post
+lines-above-determines κs a z z′ e e′ p q = p ∙ sym q
 
 pub record-at-determines : OneResult 1 record-at-kinds.ps record-at-kinds.r record-at.Post
 record-at-determines κs a z z′ e e′ p q = p ∙ sym q

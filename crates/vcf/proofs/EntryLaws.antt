@@ -2,6 +2,8 @@
 --     line-length, line-within         the line at a place: its length, and that it ends within the text
 --     header-stop, header-more, header-past
 --                                      where the records begin, from a header line on, and at the end
+--     above-stop, above-more, above-past
+--                                      how many lines stand above them, likewise
 --     skip-lines-zero, skip-lines-past, skip-lines-more, skip-lines-next
 --                                      some lines on: none, from the end, from a line, and one more
 --     readable-here, readable-next     where each line from a place on is readable, so is the one there, and each behind it
@@ -27,7 +29,7 @@ use Rattle.vcf.specs.declared.entry.Entry.{Entry}
 use Rattle.vcf.specs.declared.entry.Part.{Part}
 use Rattle.vcf.specs.Allele.{altCount}
 use Rattle.vcf.specs.Bytes.{LF, COMMA, until}
-use Rattle.vcf.specs.Entry.{part, lineAt, nextLine, entryOf, headerBytes, recordsAt, entriesFrom, entriesOf, readable?, allReadable?, readableFrom?, skipLines, recordAt}
+use Rattle.vcf.specs.Entry.{part, lineAt, nextLine, entryOf, headerBytes, recordsAt, headerLines, entriesFrom, entriesOf, readable?, allReadable?, readableFrom?, skipLines, recordAt}
 use Rattle.vcf.specs.Field.{fieldAt, fieldFrom}
 use Rattle.vcf.specs.Genotype.{copy0, copy1}
 use Rattle.vcf.specs.Header.{headerLine?}
@@ -56,6 +58,18 @@ module _ (t : List ℕ) where
   pub header-past : (a : ℕ) → length t ≤ a → headerBytes (linesOf (drop a t)) ≡ 0
   unfolding headerBytes
   header-past a h = rw (lines-past t a h)
+
+  pub above-stop : (a : ℕ) → a < length t → headerLine? (lineAt t a) ≡ false → headerLines (linesOf (drop a t)) ≡ 1
+  unfolding headerLines
+  above-stop a h e = rw (lines-at t a h, e)
+
+  pub above-more : (a : ℕ) → a < length t → headerLine? (lineAt t a) ≡ true → headerLines (linesOf (drop a t)) ≡ 1 + headerLines (linesOf (drop (nextLine t a) t))
+  unfolding headerLines
+  above-more a h e = rw (lines-at t a h, e)
+
+  pub above-past : (a : ℕ) → length t ≤ a → headerLines (linesOf (drop a t)) ≡ 0
+  unfolding headerLines
+  above-past a h = rw (lines-past t a h)
 
   pub skip-lines-past : (i a : ℕ) → length t ≤ a → skipLines i t a ≡ a
   unfolding skipLines

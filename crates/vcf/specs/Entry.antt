@@ -54,6 +54,14 @@ headerBytes (l ∷ ls) = let n = headerBytes ls in length l + 1 + pick (headerLi
 abbrev pub recordsAt : List ℕ → ℕ
 recordsAt t = headerBytes (linesOf t)
 
+-- How many lines stand above the records: those that begin with ##, and the column line behind them.
+unfoldable pub headerLines : List (List ℕ) → ℕ
+headerLines [] = 0
+headerLines (l ∷ ls) = let n = headerLines ls in 1 + pick (headerLine? l) n 0
+
+abbrev pub linesAbove : List ℕ → ℕ
+linesAbove t = headerLines (linesOf t)
+
 -- The entries on lines, the first of which begins at a.
 unfoldable pub entriesFrom : ℕ → List (List ℕ) → List Entry
 entriesFrom a [] = []

@@ -4,7 +4,7 @@ ghost use Prim.Native.Nat.{_+_, _-_, _≤_, _<_, _^_};
 ghost use lib.Dec.{T};
 ghost use lib.ListN.{length};
 ghost use Rattle.vcf.specs.Record.{posOn};
-ghost use Rattle.vcf.specs.Entry.{lineAt, nextLine, entryOf, recordsAt, part, readable?, readableFrom?, recordAt};
+ghost use Rattle.vcf.specs.Entry.{lineAt, nextLine, entryOf, recordsAt, linesAbove, part, readable?, readableFrom?, recordAt};
 use crate::allele::alt_count;
 use crate::bytes::COMMA;
 use crate::bytes::LF;
@@ -58,6 +58,24 @@ pub fn records_at(text: &[u8]) -> usize
         }
     }
     at
+}
+
+// How many lines stand above the records.
+pub fn lines_above(text: &[u8]) -> usize
+    ensures { λ r. ⌜ r ≡ linesAbove (now (text .entry)) ⌝ }
+{
+    let mut at: usize = 0;
+    let mut lines: usize = 0;
+    while at < text.len() {
+        let end = find(text, at, LF);
+        let header = is_header_line(&text[at..end]);
+        at = end + 1;
+        lines += 1;
+        if !header {
+            return lines;
+        }
+    }
+    lines
 }
 
 // Where record i begins; not below the text's length where there is none.
