@@ -15,6 +15,7 @@ use Rattle.clusters.specs.declared.listed.Listed.{Listed}
 use Rattle.clusters.specs.declared.listed.Listing.{Listing}
 use Rattle.clusters.specs.declared.listed.Nexts.{Nexts}
 use Rattle.clusters.specs.declared.listed.Stand.{Stand}
+use Rattle.clusters.specs.Counts.{one}
 use Rattle.clusters.specs.Gap.{more, nothing, begin, cut?, Kept}
 use Rattle.clusters.specs.Heads.{Ready, startHeads, itemsFrom, done?, nextItem, moved}
 use Rattle.clusters.specs.Item.{itemSize}
@@ -53,7 +54,7 @@ module _ (reference first second : List ℕ) where
 
   -- How many clusters have begun with it, the last of which is its own.
   abbrev pub begunAt : Stand → ℕ
-  begunAt s = s .begun + pick (cutAt? s) 1 0
+  begunAt s = s .begun + one (cutAt? s)
 
   -- Behind the next entry.
   abbrev pub standAfter : Stand → Stand

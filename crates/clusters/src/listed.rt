@@ -5,9 +5,10 @@ ghost use Prim.Native.Nat.{_+_, _≤_, _<_, _^_};
 ghost use lib.ListN.{length};
 ghost use Rattle.bases.specs.Put.{put};
 ghost use Rattle.vcf.specs.List.{longestText};
+ghost use Rattle.clusters.specs.Counts.{one};
 ghost use Rattle.clusters.specs.Gap.{Adds};
 ghost use Rattle.clusters.specs.Heads.{Ready, startHeads};
-ghost use Rattle.clusters.specs.Listed.{listNumber, nextOf, oneOn, nextsAfter, listedAs, firstNext, listedOf};
+ghost use Rattle.clusters.specs.Listed.{nextOf, oneOn, nextsAfter, listedAs, firstNext, listedOf};
 ghost use Rattle.clusters.specs.Listing.{grown, Going, startStand, listingFrom, firstListing, nextListing};
 ghost use Rattle.clusters.specs.Merged.{mergedItems};
 use crate::gap::Current;
@@ -153,6 +154,13 @@ fn listed_as(nexts: Nexts, side: bool, cluster: u32) -> Listed
     }
 }
 
+// One where the test holds.
+fn one(test: bool) -> u32
+    ensures { λ r. ⌜ r ≡ one test ⌝ }
+{
+    if test { 1 } else { 0 }
+}
+
 // What is kept of the cluster of an entry, where the rule cuts before it and where it does not.
 fn grown(current: Current, size: Size, cut: bool) -> Current
     requires { ⌜ Adds current size ⌝ }
@@ -187,7 +195,7 @@ fn listing_from(reference: &[u8], first: &[u8], second: &[u8], stand: Stand) -> 
     let current = stand.current;
     let nexts = stand.nexts;
     let cut = is_cut(reference, current, size.start);
-    let begun = if cut { stand.begun + 1 } else { stand.begun };
+    let begun = stand.begun + one(cut);
     Listing {
         more: true,
         listed: listed_as(nexts, item.side, begun - 1),

@@ -1,3 +1,4 @@
+pub mod AboveLaws
 pub mod AcceptedLaws
 pub mod AlleleLaws
 pub mod BytesLaws
