@@ -15,9 +15,11 @@ pub mod JoinLaws
 pub mod Leaving
 pub mod LentDetermines
 pub mod LentLaws
+pub mod ListingLaws
 pub mod MarkLaws
 pub mod MergedLaws
 pub mod NextLaws
+pub mod NumberLaws
 pub mod PlanLaws
 pub mod PlanSteps
 pub mod RowLaws

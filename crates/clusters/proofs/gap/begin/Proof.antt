@@ -1,22 +1,20 @@
+-- `clusters::gap::begin` meets its contract. Assumes nothing.
+use mathlib.Core.Path.{ap, _∙_}
+use native.Mathlib.Omega.{arith}
 use borrow.Author.Needs.{needs}
+use Rattle.clusters.specs.declared.gap.Current.{Current}
+use Rattle.clusters.specs.Gap.{more}
 use Rattle.clusters.proofs.gap.begin.Statement.{statement}
 use Rattle.clusters.proofs.gap.begin.Tie as tie
-use Rattle.clusters.proofs.gap.begin.Reads as reads
-use Rattle.clusters.proofs.gap.begin.Lts as lts
-use Rattle.clusters.proofs.gap.more.Reads as more-reads
-use Rattle.clusters.proofs.gap.nothing.Reads as nothing-reads
 
--- src/gap.rt:72:10
 nothing-requires : tie.Need-nothing-requires
 nothing-requires c κs = search needs
 
--- src/gap.rt:72:5
 more-requires : tie.Need-more-requires
-more-requires c κs = ?
+more-requires c κs = rw (c .nothing .ensures) (search needs)
 
--- src/gap.rt:69:1
 returns : tie.Need-returns
-returns c = ?
+returns c = c .more .ensures ∙ ap (λ (n : Current). more n (c .before .before .args .size)) (c .before .nothing .ensures)
 
 pub begin-spec : {M : Type 1} → statement M
 begin-spec = tie.close (tie.spec nothing-requires more-requires returns)

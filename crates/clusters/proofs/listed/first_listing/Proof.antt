@@ -1,22 +1,24 @@
+-- `clusters::listed::first_listing` meets its contract. Assumes nothing.
+use mathlib.Core.Path.{ap, _∙_}
 use borrow.Author.Needs.{needs}
+use Rattle.clusters.specs.declared.listed.Stand.{Stand}
+use Rattle.clusters.specs.Listing.{listingFrom}
+use Rattle.clusters.proofs.ListingLaws.{going-start}
 use Rattle.clusters.proofs.listed.first_listing.Statement.{statement}
 use Rattle.clusters.proofs.listed.first_listing.Tie as tie
-use Rattle.clusters.proofs.listed.first_listing.Reads as reads
-use Rattle.clusters.proofs.listed.first_listing.Lts as lts
-use Rattle.clusters.proofs.listed.listing_from.Reads as listing-from-reads
-use Rattle.clusters.proofs.listed.start_stand.Reads as start-stand-reads
 
--- src/listed.rt:208:9
 start-stand-requires : tie.Need-start-stand-requires
 start-stand-requires c κs = search needs
 
--- src/listed.rt:209:5
 listing-from-requires : tie.Need-listing-from-requires
-listing-from-requires c κs = ?
+listing-from-requires c κs =
+    let s = c .before .before .before .before in
+    rw (c .start-stand .ensures) (going-start (s .args .reference .now) (s .args .first .now) (s .args .second .now) (s .pre))
 
--- src/listed.rt:204:1
 returns : tie.Need-returns
-returns c = ?
+returns c =
+    let s = c .before .before .before .before .before in
+    c .listing-from .ensures ∙ ap (λ (d : Stand). listingFrom (s .args .reference .now) (s .args .first .now) (s .args .second .now) d) (c .before .start-stand .ensures)
 
 pub first-listing-spec : {M : Type 1} → statement M
 first-listing-spec = tie.close (tie.spec start-stand-requires listing-from-requires returns)
