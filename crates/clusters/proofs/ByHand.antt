@@ -5,7 +5,8 @@
 --                                with what is said of it and of what was lent
 --     asks                       the same where nothing was lent to be written
 --     became                     a result that is s is spelled as s is, and is a value of its type
---     tells-values               a call where nothing is lent, the parameters own only facts, and the result is said to be s
+--     tells                      a call whose result is said to be s, which is s′
+--     tells-values               the same where nothing is lent, the parameters own only facts, and the result is said to be s
 --     lastIn, lastVals           arguments with one more; their machine values
 --     last-out, last-in          what the last parameter owns, taken from the others' and put back
 --     lastLft, lastShare, token-out, token-in
@@ -104,6 +105,17 @@ became S spell tell r s v is e =
 
 module _ {M : Type 1} {𝓤 : URA M} {H : Heap 𝓤} {A : Atoms 𝓤} {K : Type 0} {W : Given 𝓤 H A} {Γ : List (Item 𝓤)} {E : Env 𝓤 H} {C : Calls 𝓤 H} {Λ : Loops 𝓤 H} {q : Post 𝓤 H} {f : Name}
     {xs : List Operand} {d : Place} {rest : Body} where
+  pub tells : K → FmC 𝓤 H (W .laws) C → (T : Ended) (c : Clauses 𝓤 T) → Triple 𝓤 (C f) (Met 𝓤 H A T c) → (y : Met 𝓤 H A T c .Ghost) → Asks 𝓤 H A T c y
+      → (spell : Answer 𝓤 H A T c y → Val) → Tells (result 𝓤 H A T c y) (Is (result 𝓤 H A T c y)) (λ d. spell d ∷ [])
+      → (s : Answer 𝓤 H A T c y) → Says 𝓤 H A T c y (λ r ws. r ≡ s) → (s′ : Answer 𝓤 H A T c y) → s ≡ s′
+      → Opds K W (raw (Met 𝓤 H A T c .pre y) ∷ Γ) E xs (Met 𝓤 H A T c .args y)
+      → (Is (result 𝓤 H A T c y) s′ (spell s′ ∷ []) → Seq K W (Tokens 𝓤 H A T c y ∷ Γ) (lands C Λ E d (spell s′) rest q))
+      → Seq K W (Tokens 𝓤 H A T c y ∷ Owned 𝓤 H A T c y ∷ Γ) (runs C Λ E (seq (call f xs d) rest) q)
+  tells t fm T c known y asked spell tell s said s′ same opds k =
+      asks t fm T c known y asked (λ r. r ≡ s) said opds (λ r v is e.
+      let came = became (result 𝓤 H A T c y) spell tell r s′ v is (e ∙ same) in
+      subst (λ (u : Val). Seq K W (Tokens 𝓤 H A T c y ∷ Γ) (lands C Λ E d u rest q)) (sym (came .0)) (k (came .1)))
+
   pub tells-values : K → FmC 𝓤 H (W .laws) C → (T : Ended) (c : Clauses 𝓤 T) → Triple 𝓤 (C f) (Met 𝓤 H A T c) → (y : Met 𝓤 H A T c .Ghost)
       → Asks 𝓤 H A T c y → ent 𝓤 (emp 𝓤) (alive 𝓤 H A (T .signature) (y .0 .0) (y .0 .1))
       → Makess 𝓤 H A (Params 𝓤 H A T c y) (Ises (Params 𝓤 H A T c y)) → Are (Params 𝓤 H A T c y) (Ises (Params 𝓤 H A T c y)) (y .0 .3) (y .0 .4)
@@ -115,9 +127,7 @@ module _ {M : Type 1} {𝓤 : URA M} {H : Heap 𝓤} {A : Atoms 𝓤} {K : Type 
   tells-values t fm T c known y asked tokens mk are spell tell s said opds k =
       use0 W (‵ (owns (Params 𝓤 H A T c y) (y .0 .3) (y .0 .4))) (owns-make 𝓤 H A (Params 𝓤 H A T c y) (Ises (Params 𝓤 H A T c y)) mk (y .0 .3) (y .0 .4) are) $
       use0 W (raw (alive 𝓤 H A (T .signature) (y .0 .0) (y .0 .1))) tokens $
-      asks t fm T c known y asked (λ r. r ≡ s) said opds (λ r v is e.
-      let came = became (result 𝓤 H A T c y) spell tell r s v is e in
-      drop t $ subst (λ (u : Val). Seq K W Γ (lands C Λ E d u rest q)) (sym (came .0)) (k (came .1)))
+      tells t fm T c known y asked spell tell s said s refl opds (λ is. drop t $ k is)
 
 abbrev pub lastIn : (Ts : List RattleType) (R : RattleType) → Denots Ts → R .Denot → Denots (Ts ++ (R ∷ []))
 lastIn [] R a x = (x, tt)

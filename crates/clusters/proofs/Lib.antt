@@ -15,7 +15,9 @@ pub mod JoinLaws
 pub mod Leaving
 pub mod LentDetermines
 pub mod LentLaws
+pub mod ListedLaws
 pub mod ListingLaws
+pub mod ListingSteps
 pub mod MarkLaws
 pub mod MergedLaws
 pub mod NextLaws
@@ -25,7 +27,9 @@ pub mod PlanSteps
 pub mod RowLaws
 pub mod SkipLaws
 pub mod SoundLaws
+pub mod StandLaws
 pub mod StepLaws
+pub mod Steps
 pub mod StretchLaws
 pub mod TakeLaws
 pub mod WalkLaws

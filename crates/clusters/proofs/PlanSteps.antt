@@ -9,7 +9,7 @@
 --     begins, goes-on          the call that makes step 0, and the one that makes step k + 1 of step k
 -- Assumes `Given`.
 use mathlib.Core.Bool.{false}
-use mathlib.Core.Path.{_≡_, refl, sym, ap, subst, _∙_}
+use mathlib.Core.Path.{_≡_, refl}
 use mathlib.Core.List.{List, [], _∷_, _++_}
 use Prim.Native.Nat.{ℕ, _<_, _≤_, _^_, _+_}
 use native.Mathlib.Omega.{arith}
@@ -34,7 +34,7 @@ use denote.Laws.{Is}
 use denote.Builtin.{u8}
 use denote.Ref.{RefT}
 use denote.Slice.{sliceTy, ShrSlice, slice-vals, shr-slice-copy}
-use denote.Steps.{owned, only}
+use denote.Steps.{owned}
 use denote.Struct.Laws as LL
 use denote.Struct.Struct.{twices}
 use denote.Triple.Spec.{tripleOf}
@@ -45,7 +45,7 @@ use Rattle.clusters.specs.declared.plan.Walk.{Walk}
 use Rattle.clusters.specs.Heads.{Ready, startHeads, itemsFrom}
 use Rattle.clusters.specs.Plan.{planOf}
 use Rattle.clusters.specs.Walk.{firstWalk, nextWalk}
-use Rattle.clusters.proofs.ByHand.{asks, lastIn, lastVals, last-in}
+use Rattle.clusters.proofs.ByHand.{tells, lastIn, lastVals, last-in}
 use Rattle.clusters.proofs.StepLaws.{start-fits, Stands, walkAt, walk-start, walk-next, walk-stands, walk-ends}
 use Rattle.clusters.proofs.plan.Cluster as Cluster′
 use Rattle.clusters.proofs.plan.Cluster.Laws as Cluster″
@@ -79,12 +79,6 @@ text j = sliceTy (tyRef (named j) imm (tyInt w8))
 abbrev pub Fine : Walk → Type 0
 Fine w = T (hasTy Walk″.mir (Walk″.lowered w)) × WT (Walk″.lowered w)
 
--- a step that is s is spelled as s is, and is a value of its type
-became : (r s : Walk) (v : Val) → Is S r (v ∷ []) → r ≡ s → (v ≡ Walk″.lowered s) × Is S s (Walk″.lowered s ∷ [])
-became r s v is e =
-    let spelled : v ≡ Walk″.lowered s = ap only (Walk″.lowers .val-is r (v ∷ []) is) ∙ ap (λ (z : Walk). Walk″.lowered z) e in
-    (spelled, subst (λ (u : Val). Is S s (u ∷ [])) spelled (subst (λ (z : Walk). Is S z (v ∷ [])) e is))
-
 module _ {M : Type 1} (𝓤 : URA M) (H : Heap 𝓤) (A : Atoms 𝓤) (mem : Memory → SProp 𝓤) (run : Routine → Fun 𝓤) where
   abbrev pub First : Contract 𝓤
   First = tripleOf 𝓤 H A first-walk.signature (first-walk.spec 𝓤 H A mem run)
@@ -115,10 +109,10 @@ module _ (xs : Refs) where
   -- each step that the plan has a record for, and the one behind the last
   pub stands : {m : ℕ} (k : ℕ) → Asked m → k < length P
       → Stands (xs .0 .now) (xs .1 .0 .now) (xs .1 .1 .0 .now) (0 + length (itemsFrom (xs .1 .0 .now) (xs .1 .1 .0 .now) heads)) (getD P k none) (step-at k)
-  stands k asked less = walk-stands (xs .0 .now) (xs .1 .0 .now) (xs .1 .1 .0 .now) k 0 heads none (asked .0) less
+  stands k asked less = walk-stands (xs .0 .now) (xs .1 .0 .now) (xs .1 .1 .0 .now) _ k 0 heads none (asked .0, refl) less
 
-  pub over : (k : ℕ) → k ≡ length P → step-at k .more ≡ false
-  over k e = walk-ends (xs .0 .now) (xs .1 .0 .now) (xs .1 .1 .0 .now) k 0 heads e
+  pub over : {m : ℕ} (k : ℕ) → Asked m → k ≡ length P → step-at k .more ≡ false
+  over k asked e = walk-ends (xs .0 .now) (xs .1 .0 .now) (xs .1 .1 .0 .now) _ k 0 heads (asked .0, refl) e
 
   abbrev pub vals : List Val × (List Val × (List Val × Unit {0}))
   vals = (slice-vals (xs .0), (slice-vals (xs .1 .0), (slice-vals (xs .1 .1 .0), tt)))
@@ -130,7 +124,7 @@ abbrev pub texts : Lfts 3 → Refs → Fml
 texts κs xs = owns (Texts κs) xs (vals xs)
 
 module _ {M : Type 1} (𝓤 : URA M) (H : Heap 𝓤) (A : Atoms 𝓤) (W : Given 𝓤 H A) (κs : Lfts 3) (xs : Refs) where
-  texts-twice : ent 𝓤 (⋆ 𝓤 H A (‵ (texts κs xs) ∷ [])) (⋆ 𝓤 H A (‵ (texts κs xs) ∷ ‵ (texts κs xs) ∷ []))
+  pub texts-twice : ent 𝓤 (⋆ 𝓤 H A (‵ (texts κs xs) ∷ [])) (⋆ 𝓤 H A (‵ (texts κs xs) ∷ ‵ (texts κs xs) ∷ []))
   texts-twice = twices 𝓤 H A W (Texts κs) (shr-slice-copy 𝓤 H A W (named 0) (κs .0) u8, (shr-slice-copy 𝓤 H A W (named 1) (κs .1 .0) u8, (shr-slice-copy 𝓤 H A W (named 2) (κs .1 .1 .0) u8, tt))) xs
       (vals xs)
 
@@ -150,11 +144,10 @@ module _ {M : Type 1} (𝓤 : URA M) (H : Heap 𝓤) (A : Atoms 𝓤) (W : Given
       → Seq K W (raw (toks 𝓤 A 3 κs qs) ∷ ‵ (texts κs xs) ∷ Γ) (runs (𝓣 .C) (𝓣 .Λ) E (seq (call first-walk-key args d) rest) q)
   begins t known m asked opds k =
       move t (1 ∷ []) $ use1 W (‵ (texts κs xs) ⊛ ‵ (texts κs xs)) (texts-twice 𝓤 H A W κs xs) $ split t $ move t (2 ∷ 0 ∷ []) $
-      asks t (fmOf 𝓤 H (W .laws) 𝓣) first-walk.ended (first-walk.clauses 𝓤 H A mem run) known (to-first 𝓤 H A mem run κs qs xs)
-      (factI 𝓤 _ _ (asked .0)) (λ (r : Walk). r ≡ firstWalk (xs .0 .now) (xs .1 .0 .now) (xs .1 .1 .0 .now)) (λ r ws. refl) opds (λ r v is e.
-      let came = became r (step-at xs 0) v is (e ∙ walk-start (xs .0 .now) (xs .1 .0 .now) (xs .1 .1 .0 .now) 0 (heads xs)) in
-      subst (λ (u : Val). Seq K W (raw (toks 𝓤 A 3 κs qs) ∷ ‵ (texts κs xs) ∷ Γ) (lands (𝓣 .C) (𝓣 .Λ) E d u rest q)) (sym (came .0))
-      (k (LL.lawful Walk′.the-type Walk″.the-laws 𝓤 H A W .typed (step-at xs 0) _ (came .1) .0) (came .1)))
+      tells t (fmOf 𝓤 H (W .laws) 𝓣) first-walk.ended (first-walk.clauses 𝓤 H A mem run) known (to-first 𝓤 H A mem run κs qs xs) (factI 𝓤 _ _ (asked .0))
+      (λ (w : Walk). Walk″.lowered w) (Walk″.lowers .val-is) (firstWalk (xs .0 .now) (xs .1 .0 .now) (xs .1 .1 .0 .now)) (λ r ws. refl)
+      (step-at xs 0) (walk-start (xs .0 .now) (xs .1 .0 .now) (xs .1 .1 .0 .now) 0 (heads xs)) opds
+      (λ is. k (LL.lawful Walk′.the-type Walk″.the-laws 𝓤 H A W .typed (step-at xs 0) _ is .0) is)
 
   pub goes-on : K → Triple 𝓤 (𝓣 .C next-walk-key) (Next 𝓤 H A mem run) → (m : ℕ) → Asked xs m → (i : ℕ) → i < length (P xs) → Good xs i
       → Opds K W (raw (Next 𝓤 H A mem run .pre (to-next 𝓤 H A mem run κs qs xs (step-at xs i))) ∷ ‵ (texts κs xs) ∷ Γ) E args (Next 𝓤 H A mem run .args (to-next 𝓤 H A mem run κs qs xs (step-at xs i)))
@@ -164,13 +157,12 @@ module _ {M : Type 1} (𝓤 : URA M) (H : Heap 𝓤) (A : Atoms 𝓤) (W : Given
       let w = step-at xs i in
       let s = stands xs {m = m} i asked less in
       let fits : w .cluster .first + w .cluster .count + length (itemsFrom (xs .1 .0 .now) (xs .1 .1 .0 .now) (w .heads)) < 2 ^ 32 =
-      omega (arith, s .fits, start-fits (xs .0 .now) (xs .1 .0 .now) (xs .1 .1 .0 .now) (asked .0)) in
+      omega (arith, s .good .1, start-fits (xs .0 .now) (xs .1 .0 .now) (xs .1 .1 .0 .now) (asked .0)) in
       move t (1 ∷ []) $ use1 W (‵ (texts κs xs) ⊛ ‵ (texts κs xs)) (texts-twice 𝓤 H A W κs xs) $ split t $
       owned t S (Is S) ((LL.makes Walk′.the-type Walk″.the-plain) 𝓤 H A) w (Walk″.lowered w ∷ []) good $ move t (1 ∷ 0 ∷ []) $
       use2 W (‵ (owns (Texts κs ++ (S ∷ [])) (lastIn (Texts κs) S xs w) (lastVals (Texts κs) S (vals xs) (Walk″.lowered w ∷ [])))) (last-in 𝓤 H A W S w (Walk″.lowered w ∷ []) (Texts κs) xs (vals xs))
       $ move t (2 ∷ 0 ∷ []) $
-      asks t (fmOf 𝓤 H (W .laws) 𝓣) next-walk.ended (next-walk.clauses 𝓤 H A mem run) known (to-next 𝓤 H A mem run κs qs xs w)
-      (factI 𝓤 _ _ (s .ready, fits)) (λ (r : Walk). r ≡ nextWalk (xs .0 .now) (xs .1 .0 .now) (xs .1 .1 .0 .now) w) (λ r ws. refl) opds (λ r v is e.
-      let came = became r (step-at xs (i + 1)) v is (e ∙ walk-next (xs .0 .now) (xs .1 .0 .now) (xs .1 .1 .0 .now) i 0 (heads xs)) in
-      subst (λ (u : Val). Seq K W (raw (toks 𝓤 A 3 κs qs) ∷ ‵ (texts κs xs) ∷ Γ) (lands (𝓣 .C) (𝓣 .Λ) E d u rest q)) (sym (came .0))
-      (k (LL.lawful Walk′.the-type Walk″.the-laws 𝓤 H A W .typed (step-at xs (i + 1)) _ (came .1) .0) (came .1)))
+      tells t (fmOf 𝓤 H (W .laws) 𝓣) next-walk.ended (next-walk.clauses 𝓤 H A mem run) known (to-next 𝓤 H A mem run κs qs xs w) (factI 𝓤 _ _ (s .good .0, fits))
+      (λ (w : Walk). Walk″.lowered w) (Walk″.lowers .val-is) (nextWalk (xs .0 .now) (xs .1 .0 .now) (xs .1 .1 .0 .now) w) (λ r ws. refl)
+      (step-at xs (i + 1)) (walk-next (xs .0 .now) (xs .1 .0 .now) (xs .1 .1 .0 .now) i 0 (heads xs)) opds
+      (λ is. k (LL.lawful Walk′.the-type Walk″.the-laws 𝓤 H A W .typed (step-at xs (i + 1)) _ is .0) is)

@@ -3,15 +3,16 @@
 --     start-fits                the entries of two texts can be counted in 32 bits
 --     planFrom, walkAt          the records from the cursors on; step k from there
 --     walk-start, walk-next     step 0, and the step behind step k
---     Stands, walk-stands       each step that the plan has a record for: its cluster is that record, and the walk can go on
+--     Goes, Stands, walk-stands
+--                               each step that the plan has a record for: its cluster is that record, and the walk can go on
 --     walk-ends                 the step behind the last record: there is no cluster more
 -- Assumes nothing.
-use mathlib.Core.Bool.{Bool, true, false, not}
-use mathlib.Core.List.{List}
+use mathlib.Core.Bool.{true, false}
+use mathlib.Core.List.{List, [], _∷_}
 use mathlib.Core.Path.{_≡_, refl, ap}
-use Prim.Native.Nat.{ℕ, zero, suc, _+_, _-_, _<_, _^_}
-use native.Mathlib.Numerals.{add-one}
+use Prim.Native.Nat.{ℕ, _+_, _<_, _^_}
 use native.Mathlib.Omega.{arith}
+use borrow.Author.Tests.{not-true, not-false}
 use lib.ListN.{length, getD, length-drop}
 use Rattle.clusters.specs.declared.cluster.Found.{Found}
 use Rattle.clusters.specs.declared.heads.Heads.{Heads}
@@ -22,6 +23,7 @@ use Rattle.clusters.specs.Plan.{recordsFrom, cardPlan}
 use Rattle.clusters.specs.Walk.{walkFrom, nextWalk}
 use Rattle.clusters.proofs.HeadsLaws.{items-few, passed-items}
 use Rattle.clusters.proofs.NextLaws.{next-done, count-le, ready-found, records-done, records-next}
+use Rattle.clusters.proofs.Steps.{stepAt, step-start, step-next, At, steps-stand, steps-end}
 
 module _ (reference first second : List ℕ) where
   pub start-fits : Ready reference first second (startHeads first second) → 0 + length (itemsFrom first second (startHeads first second)) < 2 ^ 32
@@ -40,84 +42,49 @@ module _ (reference first second : List ℕ) where
   abbrev pub planFrom : ℕ → Heads → List Cluster
   planFrom i h = recordsFrom i (cardPlan reference (variantsFrom reference first second h))
 
+  -- The step at cursors whose next entry is entry i, and where the walk stands behind a step.
+  abbrev stepFrom : ℕ × Heads → Walk
+  stepFrom s = walkFrom reference first second (s .0) (s .1)
+
+  abbrev on : Walk → ℕ × Heads
+  on w = (w .cluster .first + w .cluster .count, w .heads)
+
   -- Step k from the cursors on.
-  unfoldable pub walkAt : ℕ → ℕ → Heads → Walk
-  walkAt zero i h = walkFrom reference first second i h
-  walkAt (suc k) i h = walkAt k (i + firstCount reference first second h) (foundAt reference first second h .heads)
+  abbrev pub walkAt : ℕ → ℕ → Heads → Walk
+  walkAt k i h = stepAt stepFrom on k (i, h)
 
   pub walk-start : (i : ℕ) (h : Heads) → walkFrom reference first second i h ≡ walkAt 0 i h
-  unfolding walkAt
-  walk-start i h = refl
+  walk-start i h = step-start stepFrom on (i, h)
 
   pub walk-next : (k i : ℕ) (h : Heads) → nextWalk reference first second (walkAt k i h) ≡ walkAt (k + 1) i h
-  unfolding walkAt
-  walk-next k i h = rw (add-one k) (go k i h)
-    where
-      go : (k i : ℕ) (h : Heads) → nextWalk reference first second (walkAt k i h) ≡ walkAt (suc k) i h
-      go zero i h = refl
-      go (suc k) i h = go k (i + firstCount reference first second h) (foundAt reference first second h .heads)
+  walk-next k i h = step-next stepFrom on k (i, h)
 
-  -- A step at the cluster c, of n entries in all, from which the walk can go on.
-  pub record Stands (n : ℕ) (c : Cluster) (w : Walk) : Type 0 where
-    pub more : w .more ≡ true
-    pub cluster : w .cluster ≡ c
-    pub ready : Ready reference first second (w .heads)
-    pub fits : w .cluster .first + w .cluster .count + length (itemsFrom first second (w .heads)) ≡ n
+  -- The walk can go on from there, and there are n entries in all.
+  abbrev pub Goes : ℕ → ℕ × Heads → Type 0
+  Goes n s = Ready reference first second (s .1) × (s .0 + length (itemsFrom first second (s .1)) ≡ n)
 
-  module _ (i : ℕ) (h : Heads) (e : done? first second h ≡ false) where
-    -- behind the next cluster fewer entries are left, as many as it has
-    fewer : i + firstCount reference first second h + length (itemsFrom first second (foundAt reference first second h .heads)) ≡ i + length (itemsFrom first second h)
-    fewer =
-        let n = firstCount reference first second h in
-        let k = count-le reference first second h e in
-        omega (arith, k, ap length (passed-items first second n h k), length-drop n (itemsFrom first second h))
+  -- A step at the cluster c, from which the walk can go on.
+  abbrev pub Stands : ℕ → Cluster → Walk → Type 0
+  Stands n c w = At stepFrom on (λ (w : Walk). w .more) (λ (w : Walk). w .cluster) (λ (s : ℕ × Heads). planFrom (s .0) (s .1)) (Goes n) c w
 
-  pub walk-stands : (k i : ℕ) (h : Heads) (d : Cluster) → Ready reference first second h → k < length (planFrom i h)
-      → Stands (i + length (itemsFrom first second h)) (getD (planFrom i h) k d) (walkAt k i h)
-  unfolding walkAt
-  walk-stands zero i h d r l = go (done? first second h) refl
-    where
-      go : (t : Bool) → done? first second h ≡ t → Stands (i + length (itemsFrom first second h)) (getD (planFrom i h) 0 d) (walkFrom reference first second i h)
-      go true e = absurd (omega (arith, ap length (records-done reference first second h i e)))
-      go false e = record {
-        more = ap not e;
-        cluster = rw (records-next reference first second h e i);
-        ready = ready-found reference first second h e r;
-        fits = fewer i h e;
-      }
-  walk-stands (suc k) i h d r l =
-      go (done? first second h) refl
-      (walk-stands k (i + firstCount reference first second h) (foundAt reference first second h .heads) d)
-    where
-      i′ : ℕ
-      i′ = i + firstCount reference first second h
+  module _ (n : ℕ) where
+    none : (s : ℕ × Heads) → Goes n s → stepFrom s .more ≡ false → planFrom (s .0) (s .1) ≡ []
+    none s g e = records-done reference first second (s .1) (s .0) (not-false _ e)
 
-      h′ : Heads
-      h′ = foundAt reference first second h .heads
+    some : (s : ℕ × Heads) → Goes n s → stepFrom s .more ≡ true → (planFrom (s .0) (s .1) ≡ stepFrom s .cluster ∷ planFrom (on (stepFrom s) .0) (on (stepFrom s) .1)) × Goes n (on (stepFrom s))
+    some s g e =
+        let h = s .1 in
+        let d : done? first second h ≡ false = not-true _ e in
+        let k = firstCount reference first second h in
+        let l = count-le reference first second h d in (
+          records-next reference first second h d (s .0),
+          (ready-found reference first second h d (g .0), omega (arith, g .1, l, ap length (passed-items first second k h l), length-drop k (itemsFrom first second h))),
+        )
 
-      go : (t : Bool) → done? first second h ≡ t
-          → (Ready reference first second h′ → k < length (planFrom i′ h′) → Stands (i′ + length (itemsFrom first second h′)) (getD (planFrom i′ h′) k d) (walkAt k i′ h′))
-          → Stands (i + length (itemsFrom first second h)) (getD (planFrom i h) (suc k) d) (walkAt k i′ h′)
-      go true e f = absurd (omega (arith, ap length (records-done reference first second h i e)))
-      go false e f =
-          let s = records-next reference first second h e i in
-          rw (s, ← fewer i h e) (f (ready-found reference first second h e r) (omega (arith, ap length s)))
+    pub walk-stands : (k i : ℕ) (h : Heads) (d : Cluster) → Goes n (i, h) → k < length (planFrom i h) → Stands n (getD (planFrom i h) k d) (walkAt k i h)
+    walk-stands k i h d g l =
+        steps-stand stepFrom on (λ (w : Walk). w .more) (λ (w : Walk). w .cluster) (λ (s : ℕ × Heads). planFrom (s .0) (s .1)) (Goes n) none some k (i, h) d g l
 
-  pub walk-ends : (k i : ℕ) (h : Heads) → k ≡ length (planFrom i h) → walkAt k i h .more ≡ false
-  unfolding walkAt
-  walk-ends zero i h l = go (done? first second h) refl
-    where
-      go : (t : Bool) → done? first second h ≡ t → not (done? first second h) ≡ false
-      go true e = ap not e
-      go false e = absurd (omega (arith, ap length (records-next reference first second h e i)))
-  walk-ends (suc k) i h l = go (done? first second h) refl (walk-ends k (i + firstCount reference first second h) (foundAt reference first second h .heads))
-    where
-      i′ : ℕ
-      i′ = i + firstCount reference first second h
-
-      h′ : Heads
-      h′ = foundAt reference first second h .heads
-
-      go : (t : Bool) → done? first second h ≡ t → (k ≡ length (planFrom i′ h′) → walkAt k i′ h′ .more ≡ false) → walkAt k i′ h′ .more ≡ false
-      go true e f = absurd (omega (arith, ap length (records-done reference first second h i e)))
-      go false e f = f (omega (arith, ap length (records-next reference first second h e i)))
+    pub walk-ends : (k i : ℕ) (h : Heads) → Goes n (i, h) → k ≡ length (planFrom i h) → walkAt k i h .more ≡ false
+    walk-ends k i h g l =
+        steps-end stepFrom on (λ (w : Walk). w .more) (λ (w : Walk). w .cluster) (λ (s : ℕ × Heads). planFrom (s .0) (s .1)) (Goes n) none some k (i, h) g l

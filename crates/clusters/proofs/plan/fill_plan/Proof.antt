@@ -177,7 +177,7 @@ module _ {M : Type 1} (𝓤 : URA M) (H : Heap 𝓤) (A : Atoms 𝓤) (W : Given
         move ! (1 ∷ 0 ∷ []) $ elem-put ! R fullShare zs k (w .cluster) (Cluster″.lowered (w .cluster) ∷ []) b o inside $
         closes-slice ! tt R zs (set zs k (w .cluster)) (length-set zs k (w .cluster)) b o $
         fjoin ! $ pureI ! (at-slice R (lent (set zs k (w .cluster))) (slice ∷ [])) (tt, (tt, tt)) (ap (λ (m : ℕ). sliceVal (b, o) m ∷ []) (sym set-len), subst (Room R) (sym set-len) gy) $ fjoin ! $
-        rewrite ! 0 (λ (l : List Cluster). ‵ (own l)) (ap (set zs k) (s .cluster) ∙ fill-next (P xs) ys (asked .1) k none less) refl $
+        rewrite ! 0 (λ (l : List Cluster). ‵ (own l)) (ap (set zs k) (s .made) ∙ fill-next (P xs) ys (asked .1) k none less) refl $
         -- [the records; their token; the texts' tokens; the texts; _9; …]
         move ! (2 ∷ 3 ∷ 1 ∷ []) $ goes-on 𝓤 H A W mem run κs qs xs 𝓣 ! known-next (length ys) asked k less (i .1 .1)
         (and-then ! (load ! (from ! (stop !)) (look ! 20 refl))
@@ -193,7 +193,7 @@ module _ {M : Type 1} (𝓤 : URA M) (H : Heap 𝓤) (A : Atoms 𝓤) (W : Given
     ends i same =
         let gk : i .0 < 2 ^ 64 = omega (arith, gy .0, asked .1) in
         assigns ! (of-opd ! (load ! (from ! (fld ! refl (stop !))) (look-in ! 12 (sub ! 0 refl (whole !))))) (from ! (stop !)) (init ! 8 refl (tt, tt)) $
-        rewrite ! 8 (λ (t : Bool). ‵ (fat fullShare tyBool l₇ 0 (vbool t))) (over xs (i .0) same) refl $
+        rewrite ! 8 (λ (t : Bool). ‵ (fat fullShare tyBool l₇ 0 (vbool t))) (over xs {m = length ys} (i .0) asked same) refl $
         leaves-loop ! (load ! (from ! (stop !)) (look ! 8 refl)) $ exec ! (𝓣 .C) (𝓣 .Λ) En cm.t-4 (atRet En Post) $
         assigns ! (of-opd ! (load ! (from ! (stop !)) (look ! 10 refl))) (from ! (stop !)) (init ! 22 refl (tt, record { fits = gk })) $
         returns ! (look ! 22 refl) $ move ! (22 ∷ 23 ∷ 20 ∷ 21 ∷ 18 ∷ 19 ∷ 16 ∷ 17 ∷ 14 ∷ 15 ∷ 12 ∷ 13 ∷ 10 ∷ 11 ∷ 8 ∷ 9 ∷ 6 ∷ 7 ∷ 4 ∷ 5 ∷ []) $

@@ -160,7 +160,7 @@ module _ {M : Type 1} (𝓤 : URA M) (H : Heap 𝓤) (A : Atoms 𝓤) (W : Given
         let scaled : k * 8 < 2 ^ 64 = omega (arith, gy .1) in
         let next-fits : k + 1 < 2 ^ 64 = omega arith in
         let judged : (same k && eqb (w .cluster .first) (given .first)) && eqb (w .cluster .count) (given .count) ≡ same (k + 1) =
-        and-and (same k) (eqb (w .cluster .first) (given .first)) (eqb (w .cluster .count) (given .count)) ∙ ap (λ (c : Cluster). same k && sameCluster? c given) (s .cluster)
+        and-and (same k) (eqb (w .cluster .first) (given .first)) (eqb (w .cluster .count) (given .count)) ∙ ap (λ (c : Cluster). same k && sameCluster? c given) (s .made)
         ∙ is-plan-next none k (P xs) ys less inside in
         assigns ! (of-opd ! (load ! (from ! (fld ! refl (stop !))) (look-in ! 22 (sub ! 0 refl (whole !))))) (from ! (stop !)) (init ! 14 refl (tt, tt)) $
         rewrite ! 14 (λ (t : Bool). ‵ (fat fullShare tyBool l₉ 0 (vbool t))) (s .more) refl $
@@ -200,7 +200,7 @@ module _ {M : Type 1} (𝓤 : URA M) (H : Heap 𝓤) (A : Atoms 𝓤) (W : Given
     unfolding afterTurn
     ends i all =
         assigns ! (of-opd ! (load ! (from ! (fld ! refl (stop !))) (look-in ! 22 (sub ! 0 refl (whole !))))) (from ! (stop !)) (init ! 14 refl (tt, tt)) $
-        rewrite ! 14 (λ (t : Bool). ‵ (fat fullShare tyBool l₉ 0 (vbool t))) (over xs (i .0) all) refl $
+        rewrite ! 14 (λ (t : Bool). ‵ (fat fullShare tyBool l₉ 0 (vbool t))) (over xs {m = length ys} (i .0) asked all) refl $
         leaves-loop ! (load ! (from ! (stop !)) (look ! 14 refl)) $ exec ! (𝓣 .C) (𝓣 .Λ) En cm.t-5 (atRet En Post) $
         assigns ! (of-opd ! (load ! (from ! (stop !)) (look ! 20 refl))) (from ! (stop !)) (init ! 32 refl (tt, tt)) $
         returns ! (look ! 32 refl) $ move ! (32 ∷ 33 ∷ 30 ∷ 31 ∷ 28 ∷ 29 ∷ 26 ∷ 27 ∷ 24 ∷ 25 ∷ 22 ∷ 23 ∷ 20 ∷ 21 ∷ 18 ∷ 19 ∷ 16 ∷ 17 ∷ 14 ∷ 15 ∷ 12 ∷ 13 ∷ 10 ∷ 11 ∷ 8 ∷ 9 ∷ 6 ∷ 7 ∷ 4 ∷ 5 ∷ []) $
