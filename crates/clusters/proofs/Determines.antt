@@ -20,6 +20,8 @@ use Rattle.clusters.proofs.gap.is_cut.Kinds as is-cut-kinds
 use Rattle.clusters.proofs.gap.is_cut.Reads as is-cut
 use Rattle.clusters.proofs.gap.more.Kinds as more-kinds
 use Rattle.clusters.proofs.gap.more.Reads as more
+use Rattle.clusters.proofs.gap.nothing.Kinds as nothing-kinds
+use Rattle.clusters.proofs.gap.nothing.Reads as nothing
 use Rattle.clusters.proofs.heads.after.Kinds as after-kinds
 use Rattle.clusters.proofs.heads.after.Reads as after
 use Rattle.clusters.proofs.heads.is_done.Kinds as is-done-kinds
@@ -30,6 +32,10 @@ use Rattle.clusters.proofs.heads.start_heads.Kinds as start-heads-kinds
 use Rattle.clusters.proofs.heads.start_heads.Reads as start-heads
 use Rattle.clusters.proofs.item.size_of.Kinds as size-of-kinds
 use Rattle.clusters.proofs.item.size_of.Reads as size-of
+use Rattle.clusters.proofs.listed.first_listing.Kinds as first-listing-kinds
+use Rattle.clusters.proofs.listed.first_listing.Reads as first-listing
+use Rattle.clusters.proofs.listed.next_listing.Kinds as next-listing-kinds
+use Rattle.clusters.proofs.listed.next_listing.Reads as next-listing
 use Rattle.clusters.proofs.mark.mark_every.Kinds as mark-every-kinds
 use Rattle.clusters.proofs.mark.mark_every.Reads as mark-every
 use Rattle.clusters.proofs.mark.mark_one.Kinds as mark-one-kinds
@@ -61,6 +67,9 @@ is-cut-determines κs a z z′ e e′ p q = p ∙ sym q
 
 pub more-determines : OneResult 0 more-kinds.ps more-kinds.r more.Post
 more-determines κs a z z′ e e′ p q = p ∙ sym q
+
+pub nothing-determines : OneResult 0 nothing-kinds.ps nothing-kinds.r nothing.Post
+nothing-determines κs a z z′ e e′ p q = p ∙ sym q
 
 pub after-determines : OneResult 2 after-kinds.ps after-kinds.r after.Post
 after-determines κs a z z′ e e′ p q = p ∙ sym q
@@ -100,3 +109,9 @@ first-walk-determines κs a z z′ e e′ p q = p ∙ sym q
 
 pub next-walk-determines : OneResult 3 next-walk-kinds.ps next-walk-kinds.r next-walk.Post
 next-walk-determines κs a z z′ e e′ p q = p ∙ sym q
+
+pub first-listing-determines : OneResult 3 first-listing-kinds.ps first-listing-kinds.r first-listing.Post
+first-listing-determines κs a z z′ e e′ p q = p ∙ sym q
+
+pub next-listing-determines : OneResult 3 next-listing-kinds.ps next-listing-kinds.r next-listing.Post
+next-listing-determines κs a z z′ e e′ p q = p ∙ sym q

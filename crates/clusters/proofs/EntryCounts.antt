@@ -74,7 +74,7 @@ sum-marked (m ∷ ms) u = omega (arith, mark-once m (u .0), sum-marked ms (u .1)
 
 module _ (side : Bool) where
   -- The entries of the list.
-  abbrev own : List Item → List Item
+  abbrev pub own : List Item → List Item
   own is = keep (λ (i : Item). Bool·beq side (i .side)) is
 
   own-kept : (is : List Item) (ms : List ℕ) → length is ≤ length ms → length (ownMarks side is ms) ≡ length (own is)

@@ -3,19 +3,23 @@
 --     numbersOn                           by the walk: b clusters have begun, and c is kept of the last
 --     numbers-plan                        they are those of the plan's records
 --     numbers-length, numbers-all         one an item; one an entry
+--     Covers, number-covers               each entry's number is that of the record that has it
 -- Assumes nothing.
 use mathlib.Core.Bool.{Bool, true, false}
 use mathlib.Core.List.{List, [], _∷_, _++_, map, append-assoc, append-nil}
 use mathlib.Core.Path.{_≡_, refl, sym, ap, _∙_}
-use Prim.Native.Nat.{ℕ, zero, suc, _+_, _-_}
+use Prim.Native.Nat.{ℕ, zero, suc, _+_, _-_, _≤_, _<_}
+use native.Mathlib.Decide.{decLt}
 use native.Mathlib.Omega.{arith}
 use borrow.Author.Tests.{le-leb}
-use lib.ListN.{length, replicate, length-append}
+use lib.ListN.{length, getD, replicate, length-append, length-replicate, getD-replicate, List·getD-append}
+use lib.Seq.{getD-append-add}
 use Rattle.bases.specs.declared.place.Place.{Place}
 use Rattle.bases.specs.Letter.{basesOf}
 use Rattle.donors.specs.Choice.{cardRules}
 use Rattle.donors.specs.Rules.{Rules}
 use Rattle.clusters.specs.declared.gap.Current.{Current}
+use Rattle.clusters.specs.declared.plan.Cluster.{Cluster}
 use Rattle.clusters.specs.Counts.{one}
 use Rattle.clusters.specs.Gap.{sizeOf, more, nothing, begin, cut?}
 use Rattle.clusters.specs.Item.{variant}
@@ -93,3 +97,46 @@ numbers-all reference first second =
     let xs = mergedVariants reference first second in
     ap length (numbers-plan cardRules (basesOf reference) xs) ∙ numbers-length cardRules (basesOf reference) nothing 0 xs
     ∙ map-length (variant reference first second) (mergedItems first second)
+
+-- Number m, of the plan's records rs, has entry e.
+pub record Covers (rs : List Cluster) (m e : ℕ) : Type 0 where
+  pub there : m < length rs
+  pub after : (c : Cluster) → getD rs m c .first ≤ e
+  pub before : (c : Cluster) → e < getD rs m c .first + getD rs m c .count
+
+numbers-cover : {X : Type 0} (k i : ℕ) (cs : List (List X)) (e d : ℕ) → e < length (numbersFrom k (recordsFrom i cs))
+    → (k ≤ getD (numbersFrom k (recordsFrom i cs)) e d) × Covers (recordsFrom i cs) (getD (numbersFrom k (recordsFrom i cs)) e d - k) (i + e)
+unfolding numbersFrom recordsFrom
+numbers-cover k i [] e d h = absurd (omega arith)
+numbers-cover k i (c ∷ cs) e d h = go (decLt e (length c)) (numbers-cover (k + 1) (i + length c) cs (e - length c) d)
+  where
+    ks : List ℕ
+    ks = numbersFrom (k + 1) (recordsFrom (i + length c) cs)
+
+    long : length (replicate (length c) k) ≡ length c
+    long = length-replicate (length c) k
+
+    go : Dec (e < length c)
+        → (e - length c < length ks → (k + 1 ≤ getD ks (e - length c) d) × Covers (recordsFrom (i + length c) cs) (getD ks (e - length c) d - (k + 1)) (i + length c + (e - length c)))
+        → (k ≤ getD (replicate (length c) k ++ ks) e d) × Covers (recordsFrom i (c ∷ cs)) (getD (replicate (length c) k ++ ks) e d - k) (i + e)
+    go (yes l) r =
+        let n : getD (replicate (length c) k ++ ks) e d ≡ k = List·getD-append (replicate (length c) k) ks d e (omega (arith, long)) ∙ getD-replicate (length c) e k d l in
+        let z : k - k ≡ 0 = omega arith in
+        rw (n, z) (omega arith, record { there = omega arith; after = λ x. omega arith; before = λ x. omega arith })
+    go (no l) r =
+        let p : e ≡ length (replicate (length c) k) + (e - length c) = omega (arith, long) in
+        let n : getD (replicate (length c) k ++ ks) e d ≡ getD ks (e - length c) d =
+        ap (λ (j : ℕ). getD (replicate (length c) k ++ ks) j d) p ∙ getD-append-add (replicate (length c) k) ks (e - length c) d in
+        let s = r (omega (arith, long, length-append (replicate (length c) k) ks)) in
+        let m : getD ks (e - length c) d - k ≡ suc (getD ks (e - length c) d - (k + 1)) = omega (arith, s .0) in
+        rw (n, m) (
+          omega (arith, s .0),
+          record { there = omega (arith, s .1 .there); after = λ x. omega (arith, s .1 .after x); before = λ x. omega (arith, s .1 .before x) },
+        )
+
+pub number-covers : {X : Type 0} (cs : List (List X)) (e d : ℕ) → e < length (numbersFrom 0 (recordsFrom 0 cs)) → Covers (recordsFrom 0 cs) (getD (numbersFrom 0 (recordsFrom 0 cs)) e d) e
+number-covers cs e d h =
+    let m = getD (numbersFrom 0 (recordsFrom 0 cs)) e d in
+    let z : m - 0 ≡ m = omega arith in
+    let a : 0 + e ≡ e = omega arith in
+    rw (z, a) at (numbers-cover 0 0 cs e d h .1)

@@ -11,6 +11,7 @@ use Prim.Native.Nat.{ℕ, zero, suc, _+_, _-_, _≤_, _<_}
 use native.Mathlib.Decide.{decLt}
 use native.Mathlib.Omega.{arith}
 use lib.ListN.{length, getD, drop}
+use lib.Seq.{getD-drop}
 use Rattle.bases.specs.Pick.{pick}
 use Rattle.vcf.specs.declared.entry.Entry.{Entry}
 use Rattle.vcf.specs.Entry.{lineAt, nextLine, entryOf, headerBytes, recordsAt, headerLines, linesAbove, entriesOf, skipLines, recordAt}
@@ -31,13 +32,6 @@ above-le (l ∷ ls) = go (headerLine? l) (above-le ls)
 
 pub above-few : (t : List ℕ) → linesAbove t ≤ length t
 above-few t = omega (arith, above-le (linesOf t), lines-few t)
-
-get-drop : {A : Type 0} (n i : ℕ) (l : List A) (d : A) → getD l (n + i) d ≡ getD (drop n l) i d
-get-drop zero i l d = ap (λ (k : ℕ). getD l k d) (omega arith)
-get-drop (suc n) i [] d = refl
-get-drop (suc n) i (a ∷ l) d =
-    let e : suc n + i ≡ suc (n + i) = omega arith in
-    rw e (get-drop n i l d)
 
 module _ (t : List ℕ) where
   above-end : (a : ℕ) → length t ≤ a → linesOf (drop (a + headerBytes (linesOf (drop a t))) t) ≡ drop (headerLines (linesOf (drop a t))) (linesOf (drop a t))
@@ -83,5 +77,5 @@ module _ (t : List ℕ) where
   entry-line i d h =
       let k = entries-iff t i .0 h in
       let l : getD (linesOf t) (linesAbove t + i) [] ≡ lineAt t (recordAt t i) =
-      get-drop (linesAbove t) i (linesOf t) [] ∙ ap (λ (ls : List (List ℕ)). getD ls i []) (sym above-lines) ∙ line-there i (recordsAt t) k in
+      sym (getD-drop (linesAbove t) (linesOf t) i []) ∙ ap (λ (ls : List (List ℕ)). getD ls i []) (sym above-lines) ∙ line-there i (recordsAt t) k in
       entry-number t i d k ∙ ap (λ (x : List ℕ). entryOf x (recordAt t i)) (sym l)
