@@ -8,7 +8,7 @@ ghost use Rattle.vcf.specs.List.{longestText};
 ghost use Rattle.clusters.specs.Counts.{one};
 ghost use Rattle.clusters.specs.Gap.{Adds};
 ghost use Rattle.clusters.specs.Heads.{Ready, startHeads};
-ghost use Rattle.clusters.specs.Listed.{nextOf, oneOn, nextsAfter, listedAs, firstNext, listedOf};
+ghost use Rattle.clusters.specs.Listed.{listNumber, nextOf, oneOn, nextsAfter, listedAs, firstNext, listedOf};
 ghost use Rattle.clusters.specs.Listing.{grown, Going, startStand, listingFrom, firstListing, nextListing};
 ghost use Rattle.clusters.specs.Merged.{mergedItems};
 use crate::gap::Current;
@@ -132,22 +132,30 @@ fn nexts_after(nexts: Nexts, side: bool) -> Nexts
     }
 }
 
+// The number of a list (`side`: list 1).
+fn list_number(side: bool) -> u32
+    ensures { λ r. ⌜ r ≡ listNumber side ⌝ }
+{
+    if side { 1 } else { 2 }
+}
+
+// The next entry of a list.
+fn next_of(nexts: Nexts, side: bool) -> Next
+    ensures { λ r. ⌜ r ≡ nextOf nexts side ⌝ }
+{
+    if side {
+        return nexts.first;
+    }
+    nexts.second
+}
+
 // The record of a list's next entry, which is in this cluster.
 fn listed_as(nexts: Nexts, side: bool, cluster: u32) -> Listed
     ensures { λ r. ⌜ r ≡ listedAs nexts side cluster ⌝ }
 {
-    if side {
-        let next = nexts.first;
-        return Listed {
-            list: 1,
-            entry: next.entry,
-            line: next.line,
-            cluster,
-        };
-    }
-    let next = nexts.second;
+    let next = next_of(nexts, side);
     Listed {
-        list: 2,
+        list: list_number(side),
         entry: next.entry,
         line: next.line,
         cluster,

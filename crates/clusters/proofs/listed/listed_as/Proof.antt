@@ -1,12 +1,16 @@
 -- `clusters::listed::listed_as` meets its contract. Assumes nothing.
+use borrow.Author.Needs.{needs}
 use Rattle.clusters.proofs.listed.listed_as.Statement.{statement}
 use Rattle.clusters.proofs.listed.listed_as.Tie as tie
 
-returns : tie.Need-returns
-returns c = rw (c .before .if1 .taken)
+next-of-requires : tie.Need-next-of-requires
+next-of-requires c κs = search needs
 
-returns-2 : tie.Need-returns-2
-returns-2 c = rw (c .before .if1 .left)
+list-number-requires : tie.Need-list-number-requires
+list-number-requires c κs = search needs
+
+returns : tie.Need-returns
+returns c = rw (c .list-number .ensures, c .before .next-of .ensures)
 
 pub listed-as-spec : {M : Type 1} → statement M
-listed-as-spec = tie.close (tie.spec returns returns-2)
+listed-as-spec = tie.close (tie.spec next-of-requires list-number-requires returns)
