@@ -12,6 +12,7 @@ use clusters::plan::Cluster;
 use clusters::plan::fill_plan;
 
 // What is answered: the three numbers of a refusal, or zeros; the number of clusters; and the score summed over the decided ones.
+#[repr(C)]
 pub struct AllMarked {
     pub number: u32,
     pub list: u32,

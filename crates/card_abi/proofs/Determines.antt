@@ -12,6 +12,8 @@ use Rattle.card_abi.proofs.count.card_count.Kinds as card-count-kinds
 use Rattle.card_abi.proofs.count.card_count.Reads as card-count
 use Rattle.card_abi.proofs.normal_text.card_normal.Kinds as card-normal-kinds
 use Rattle.card_abi.proofs.normal_text.card_normal.Reads as card-normal
+use Rattle.card_abi.proofs.version.card_version.Kinds as card-version-kinds
+use Rattle.card_abi.proofs.version.card_version.Reads as card-version
 
 pub card-allele-determines : OneResult 3 card-allele-kinds.ps card-allele-kinds.r card-allele.Post
 card-allele-determines κs a z z′ e e′ p q = p ∙ sym q
@@ -24,3 +26,6 @@ card-normal-determines κs a z z′ e e′ p q = p .0 ∙ sym (q .0)
 
 pub card-normal-leaves : OneLeft 4 card-normal-kinds.ps card-normal-kinds.r card-normal.Post (List ℕ) (λ κs e. now (e .1 .1 .1 .0))
 card-normal-leaves κs a z z′ e e′ p q = p .1 ∙ sym (q .1)
+
+pub card-version-determines : OneResult 0 card-version-kinds.ps card-version-kinds.r card-version.Post
+card-version-determines κs a z z′ e e′ p q = p ∙ sym q

@@ -1,4 +1,6 @@
+pub mod AllDetermines
 pub mod AnswerLaws
 pub mod Determines
+pub mod Handing
 pub mod MarkDetermines
 pub mod PlanDetermines
