@@ -13,6 +13,7 @@ pub mod DemandLaws
 pub mod Determines
 pub mod EntryLaws
 pub mod Examples
+pub mod FillCall
 pub mod ListSteps
 pub mod ListsLaws
 pub mod MarkDetermines
