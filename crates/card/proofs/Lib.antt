@@ -14,6 +14,7 @@ pub mod Determines
 pub mod EntryLaws
 pub mod Examples
 pub mod FillCall
+pub mod FillWalk
 pub mod ListSteps
 pub mod ListsLaws
 pub mod MarkDetermines

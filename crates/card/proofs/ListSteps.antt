@@ -1,4 +1,4 @@
--- What the walks by hand of `plan` and `mark_all` share: four lent texts, the call that says whether the lists are turned away, and a call that writes
+-- What the walks by hand of `FillWalk` and `mark_all` share: four lent texts, the call that says whether the lists are turned away, and a call that writes
 -- into what it is lent.
 --     Refs, Texts, texts      the reference, the name and two lists as they are passed, their types, and what they own, which can be had twice
 --     three, lists            without the name

@@ -4,3 +4,4 @@ pub mod Determines
 pub mod Handing
 pub mod MarkDetermines
 pub mod PlanDetermines
+pub mod RecordsHanded

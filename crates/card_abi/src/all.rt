@@ -6,8 +6,8 @@ use card::all::AllMarked;
 use card::all::mark_all;
 use clusters::plan::Cluster;
 
-// Plans two lists and marks every cluster: leaves what `card_plan` and then `card_mark` of each cluster leave. Answered: number 0, the number
-// of clusters, and the score summed over the decided ones.
+// Plans two lists and marks every cluster: leaves what `card_plan` and then `card_mark` of each cluster leave. Answered: number 0, the
+// number of clusters, and the score summed over the decided ones.
 #[no_mangle]
 pub extern "C" fn card_mark_all(
     reference: &[u8],

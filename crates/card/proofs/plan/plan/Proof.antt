@@ -1,4 +1,4 @@
--- `card::plan::plan` meets its contract: `FillCall`'s walk, with `fill_plan` for what fills the records. Assumes nothing.
+-- `card::plan::plan` meets its contract: `FillWalk`, with `fill_plan` for the function that fills the records. Assumes nothing.
 use mathlib.Core.List.{List}
 use mathlib.Core.Path.{_≡_}
 use Prim.Native.Nat.{ℕ, _≤_}
@@ -18,7 +18,8 @@ use Rattle.clusters.proofs.plan.fill_plan.Symbol as fill-plan-def
 use Rattle.clusters.proofs.plan.fill_plan.Met as fill-plan-thm
 use Rattle.card.specs.Plan.{planRefusal}
 use Rattle.card.specs.Refusal.{leastRoom}
-use Rattle.card.proofs.FillCall.{Fills, Give, meets}
+use Rattle.card.proofs.FillCall.{Fills}
+use Rattle.card.proofs.FillWalk.{Give, meets}
 use Rattle.card.proofs.ListSteps.{Lends, Refused}
 use Rattle.card.proofs.ReadyLaws.{lists-answerable}
 use Rattle.card.proofs.answer.give.Symbol as give-def
