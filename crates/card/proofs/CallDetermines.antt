@@ -9,10 +9,12 @@ use denote.Triple.Clauses.{AtExit}
 use denote.Triple.Entry.{Args, Res}
 use Rattle.clusters.proofs.LentDetermines.{Relation, States}
 use Rattle.card.specs.All.{allAnswered, emptyPlan, allPlan, allBytes}
+use Rattle.card.specs.Entries.{listed, listedAfter}
 use Rattle.card.specs.Plan.{planned, planAfter}
 use Rattle.card.specs.Refusal.{leastRoom}
 use Rattle.card.proofs.all.mark_all as mark-all
 use Rattle.card.proofs.all.marked_lists as marked-lists
+use Rattle.card.proofs.entries.entries as entries
 use Rattle.card.proofs.plan.plan as plan
 
 abbrev pub Planned : Relation plan.ended
@@ -26,6 +28,18 @@ plan-states M 𝓤 H A mem run κs a g z e = refl
 pub plan-determines : (κs : Lfts 5) (a : Args plan.signature κs) (z z′ : Res plan.signature κs) (e e′ : AtExit plan.ended κs)
     → Planned κs a z e → Planned κs a z′ e′ → (z ≡ z′) × (now (e .1 .1 .1 .1 .0) ≡ now (e′ .1 .1 .1 .1 .0))
 plan-determines κs a z z′ e e′ p q = (p .0 ∙ sym (q .0), p .1 ∙ sym (q .1))
+
+abbrev pub EntriesListed : Relation entries.ended
+EntriesListed κs a z e =
+    (z ≡ listed (now (a .0)) (now (a .1 .0)) (now (a .1 .1 .0)) (now (a .1 .1 .1 .0)) (length (now (a .1 .1 .1 .1 .0))))
+    × (now (e .1 .1 .1 .1 .0) ≡ listedAfter (now (a .0)) (now (a .1 .0)) (now (a .1 .1 .0)) (now (a .1 .1 .1 .0)) (now (a .1 .1 .1 .1 .0)))
+
+pub entries-states : States entries.ended (λ M 𝓤 H. entries.clauses 𝓤 H) EntriesListed
+entries-states M 𝓤 H A mem run κs a g z e = refl
+
+pub entries-determines : (κs : Lfts 5) (a : Args entries.signature κs) (z z′ : Res entries.signature κs) (e e′ : AtExit entries.ended κs)
+    → EntriesListed κs a z e → EntriesListed κs a z′ e′ → (z ≡ z′) × (now (e .1 .1 .1 .1 .0) ≡ now (e′ .1 .1 .1 .1 .0))
+entries-determines κs a z z′ e e′ p q = (p .0 ∙ sym (q .0), p .1 ∙ sym (q .1))
 
 abbrev pub MarkedAll : Relation mark-all.ended
 MarkedAll κs a z e =

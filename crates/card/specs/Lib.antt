@@ -3,6 +3,7 @@ pub mod Allele
 pub mod Answer
 pub mod Count
 pub mod Demand
+pub mod Entries
 pub mod Examples
 pub mod Mark
 pub mod Normal

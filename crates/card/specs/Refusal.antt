@@ -40,7 +40,7 @@ listCheck j reference name text =
     check (not (eqb (judgeText reference name text .number) 0))
     (refusal (judgeText reference name text .number) j (judgeText reference name text .line))
 
--- The least room that is lent for a plan, in clusters, and for marks, in bytes.
+-- The least room that is lent for a plan, in clusters, for entries, and for marks, in bytes.
 abbrev pub leastRoom : ℕ
 leastRoom = 1024
 

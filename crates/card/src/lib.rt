@@ -4,6 +4,7 @@ pub mod all;
 pub mod allele;
 pub mod answer;
 pub mod count;
+pub mod entries;
 pub mod lists;
 pub mod mark;
 pub mod normal_text;

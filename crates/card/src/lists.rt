@@ -52,7 +52,7 @@ pub fn lists_refused(
     refuse(fault.number, 2, fault.line as u32)
 }
 
-// The least room that is lent for a plan, in clusters, and for marks, in bytes.
+// The least room that is lent for a plan, in clusters, for entries, and for marks, in bytes.
 pub const LEAST: usize = 1_024;
 
 // Row 2: the plan or the marks are too small.

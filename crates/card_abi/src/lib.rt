@@ -2,6 +2,7 @@
 pub mod all;
 pub mod allele;
 pub mod count;
+pub mod entries;
 pub mod mark;
 pub mod normal_text;
 pub mod plan;

@@ -1,0 +1,54 @@
+-- `card::entries::entries` meets its contract: `FillWalk`, with `fill_entries` for the function that fills the records. Assumes nothing.
+use mathlib.Core.List.{List}
+use mathlib.Core.Path.{_≡_}
+use Prim.Native.Nat.{ℕ, _≤_}
+use native.Mathlib.Omega.{arith}
+use borrow.Author.Tests.{ltb-false}
+use lib.Dec.{ltb}
+use lib.ListN.{length}
+use contract.Running.{givenOf, tables, tablesOf}
+use denote.Triple.Spec.{tripleOf}
+use denote.Triple.Table.{entered, cited}
+use Rattle.clusters.specs.Heads.{Ready, startHeads}
+use Rattle.clusters.specs.Listed.{listedOf}
+use Rattle.clusters.specs.Merged.{mergedItems}
+use Rattle.clusters.proofs.ByHand.{Met}
+use Rattle.clusters.proofs.ListedLaws.{listed-length}
+use Rattle.clusters.proofs.listed.Listed as Listed′
+use Rattle.clusters.proofs.listed.Listed.Laws as Listed″
+use Rattle.clusters.proofs.listed.fill_entries.Symbol as fill-entries-def
+use Rattle.clusters.proofs.listed.fill_entries.Met as fill-entries-thm
+use Rattle.card.specs.Plan.{planRefusal}
+use Rattle.card.specs.Refusal.{leastRoom}
+use Rattle.card.proofs.FillCall.{Fills}
+use Rattle.card.proofs.FillWalk.{Give, meets}
+use Rattle.card.proofs.ListSteps.{Lends, Refused}
+use Rattle.card.proofs.ReadyLaws.{lists-answerable}
+use Rattle.card.proofs.answer.give.Symbol as give-def
+use Rattle.card.proofs.answer.give.Met as give-thm
+use Rattle.card.proofs.lists.lists_refused.Symbol as lists-refused-def
+use Rattle.card.proofs.lists.lists_refused.Met as lists-refused-thm
+use Rattle.card.proofs.entries.entries.Key as key
+use Rattle.card.proofs.entries.entries as entries
+use Rattle.card.proofs.entries.entries.Statement as stated
+use Rattle.card.proofs.entries.entries.Code as code
+
+abbrev Asks : List ℕ → List ℕ → List ℕ → ℕ → Type 0
+Asks reference first second room = Ready reference first second (startHeads first second) × (length (mergedItems first second) ≤ room)
+
+asked : (reference name first second : List ℕ) (room : ℕ) → planRefusal reference name first second room .number ≡ 0
+    → Asks reference first second room × (length (listedOf reference first second) ≤ leastRoom)
+asked reference name first second room z =
+    let can = lists-answerable reference name first second (ltb room leastRoom) z in
+    let roomy : leastRoom ≤ room = ltb-false room leastRoom (can .1) in
+    ((can .0 .ready, omega (arith, can .0 .entries)), omega (arith, can .0 .entries, listed-length reference first second))
+
+pub entries-spec : {M : Type 1} → stated.statement M
+unfolding code.routine tablesOf
+entries-spec 𝓤 H 𝓜 𝓖 𝓡 =
+    entered 𝓤 H (tripleOf 𝓤 H (𝓖 .A) entries.signature (entries.spec 𝓤 H (𝓖 .A) (𝓜 .mem) (𝓡 .run)))
+    (tables 𝓤 H 𝓜 𝓡 code.env .C) (tables 𝓤 H 𝓜 𝓡 code.env .Λ) key.name code.function (code.unfolded 𝓤 H 𝓜 𝓡)
+    (meets Listed′.the-row Listed″.mir fill-entries-def.name listedOf Asks asked 𝓤 H (𝓖 .A) (givenOf 𝓤 H 𝓜 𝓖) (𝓜 .mem) (𝓡 .run) (tablesOf 𝓤 H 𝓜 (tables 𝓤 H 𝓜 𝓡 code.env))
+    (cited 𝓤 H (Refused 𝓤 H (𝓖 .A) (𝓜 .mem) (𝓡 .run)) 𝓜 𝓡 code.env lists-refused-def.name lists-refused-def.routine code.calls-card·lists·lists-refused (lists-refused-thm.met 𝓤 H 𝓜 𝓖 𝓡))
+    (cited 𝓤 H (Met 𝓤 H (𝓖 .A) (Lends Listed′.the-row) (Fills Listed′.the-row listedOf 𝓤 Asks)) 𝓜 𝓡 code.env fill-entries-def.name fill-entries-def.routine code.calls-clusters·listed·fill-entries (fill-entries-thm.met 𝓤 H 𝓜 𝓖 𝓡))
+    (cited 𝓤 H (Give 𝓤 H (𝓖 .A) (𝓜 .mem) (𝓡 .run)) 𝓜 𝓡 code.env give-def.name give-def.routine code.calls-card·answer·give (give-thm.met 𝓤 H 𝓜 𝓖 𝓡)))
