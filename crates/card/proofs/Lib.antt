@@ -11,6 +11,7 @@ pub mod CountExamples
 pub mod CountLaws
 pub mod DemandLaws
 pub mod Determines
+pub mod EntriesExamples
 pub mod EntriesLaws
 pub mod EntryLaws
 pub mod Examples

@@ -50,5 +50,6 @@ entries-spec 𝓤 H 𝓜 𝓖 𝓡 =
     (tables 𝓤 H 𝓜 𝓡 code.env .C) (tables 𝓤 H 𝓜 𝓡 code.env .Λ) key.name code.function (code.unfolded 𝓤 H 𝓜 𝓡)
     (meets Listed′.the-row Listed″.mir fill-entries-def.name listedOf Asks asked 𝓤 H (𝓖 .A) (givenOf 𝓤 H 𝓜 𝓖) (𝓜 .mem) (𝓡 .run) (tablesOf 𝓤 H 𝓜 (tables 𝓤 H 𝓜 𝓡 code.env))
     (cited 𝓤 H (Refused 𝓤 H (𝓖 .A) (𝓜 .mem) (𝓡 .run)) 𝓜 𝓡 code.env lists-refused-def.name lists-refused-def.routine code.calls-card·lists·lists-refused (lists-refused-thm.met 𝓤 H 𝓜 𝓖 𝓡))
-    (cited 𝓤 H (Met 𝓤 H (𝓖 .A) (Lends Listed′.the-row) (Fills Listed′.the-row listedOf 𝓤 Asks)) 𝓜 𝓡 code.env fill-entries-def.name fill-entries-def.routine code.calls-clusters·listed·fill-entries (fill-entries-thm.met 𝓤 H 𝓜 𝓖 𝓡))
+    (cited 𝓤 H (Met 𝓤 H (𝓖 .A) (Lends Listed′.the-row) (Fills Listed′.the-row listedOf 𝓤 Asks)) 𝓜 𝓡 code.env fill-entries-def.name fill-entries-def.routine
+    code.calls-clusters·listed·fill-entries (fill-entries-thm.met 𝓤 H 𝓜 𝓖 𝓡))
     (cited 𝓤 H (Give 𝓤 H (𝓖 .A) (𝓜 .mem) (𝓡 .run)) 𝓜 𝓡 code.env give-def.name give-def.routine code.calls-card·answer·give (give-thm.met 𝓤 H 𝓜 𝓖 𝓡)))
