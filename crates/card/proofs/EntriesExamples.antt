@@ -1,7 +1,7 @@
 -- The call `entries` computed.
---     example-9      three entries of one cluster: of list 2, of list 1 and of list 2, on lines 3, 3 and 4
---     example-7      an entry of each list, in two clusters
---     too-few        with room for 1,023 the call is refused
+--     example-9, answered      three entries of one cluster: of list 2, of list 1 and of list 2, on lines 3, 3 and 4; their number is answered
+--     example-7                an entry of each list, in two clusters
+--     too-few, unwritten       with room for 1,023 the call is refused; where it is refused, a lent record is as it was
 -- Assumes nothing.
 use mathlib.Core.List.{List, [], _∷_}
 use mathlib.Core.Path.{_≡_, refl}
@@ -14,13 +14,17 @@ use Rattle.clusters.specs.Listed.{numbersFrom, listedFrom, listedOf}
 use Rattle.clusters.specs.Merged.{weave, merged}
 use Rattle.clusters.specs.Plan.{rest, plan, recordsFrom}
 use Rattle.matching.specs.Cut.{join}
+use Rattle.vcf.specs.Allele.{altsWrong?}
 use Rattle.vcf.specs.Bytes.{until}
 use Rattle.vcf.specs.Entry.{headerBytes, headerLines, entriesFrom}
-use Rattle.vcf.specs.Field.{skip}
-use Rattle.vcf.specs.List.{linesOf}
+use Rattle.vcf.specs.Field.{full?, skip}
+use Rattle.vcf.specs.Genotype.{copiesWrong?}
+use Rattle.vcf.specs.Header.{headerWrong?}
+use Rattle.vcf.specs.List.{linesOf, judgeLines, judgeText}
 use Rattle.vcf.specs.Pos.{allDigits?, isPos?, valueFrom}
+use Rattle.vcf.specs.Row.{firstRow}
 use Rattle.card.specs.Answer.{answer}
-use Rattle.card.specs.Entries.{listed}
+use Rattle.card.specs.Entries.{listed, listedAfter}
 use Rattle.card.specs.Examples.{ascii, chr1, hom, text}
 use Rattle.card.specs.Refusal.{firstRefusal}
 
@@ -45,6 +49,15 @@ unfolding among? letterOf allLetters? anyPeriod? agree? numbersFrom listedFrom w
     allDigits? isPos? valueFrom
 example-7 = refl
 
+pub answered : listed (ascii "TGCCGT") chr1 first9 second9 1024 ≡ answer 0 0 0 3
+unfolding among? letterOf allLetters? anyPeriod? agree? numbersFrom listedFrom weave merged rest plan recordsFrom join altsWrong? until headerBytes headerLines entriesFrom full? skip copiesWrong?
+    headerWrong? linesOf judgeLines judgeText allDigits? isPos? valueFrom firstRow firstRefusal
+answered = refl
+
 pub too-few : listed (ascii "TGCCGT") chr1 first9 second9 1023 ≡ answer 2 0 0 0
 unfolding among? letterOf allLetters? firstRefusal
 too-few = refl
+
+pub unwritten : listedAfter (ascii "TGCCGT") chr1 first9 second9 (entry 0 0 0 0 ∷ []) ≡ entry 0 0 0 0 ∷ []
+unfolding among? letterOf allLetters? firstRefusal
+unwritten = refl

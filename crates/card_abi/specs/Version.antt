@@ -10,6 +10,6 @@ major = 1
 abbrev pub minor : ℕ
 minor = 0
 
--- Both, in one number.
+-- The version: 65,536 times the major part, plus the minor part.
 abbrev pub cardVersion : ℕ
 cardVersion = major * 65536 + minor

@@ -1,4 +1,4 @@
-// The card's calls for C and Rust: no reference is returned, and each answer is a struct of numbers.
+// The card's calls for C and Rust: no reference is returned, and each answer is a number or a struct of numbers.
 pub mod all;
 pub mod allele;
 pub mod count;
