@@ -31,7 +31,8 @@ use Rattle.vcf.specs.Header.{headerWrong?}
 use Rattle.vcf.specs.List.{linesOf, judgeLines, judgeText}
 use Rattle.vcf.specs.Pos.{allDigits?, valueFrom, isPos?}
 use Rattle.vcf.specs.Row.{firstRow}
-use Rattle.compare.specs.Printed.{numbersFrom, entryLines}
+use Rattle.clusters.specs.Listed.{numbersFrom}
+use Rattle.compare.specs.Printed.{entryLines}
 
 -- GCATATG
 abbrev reference : List ℕ

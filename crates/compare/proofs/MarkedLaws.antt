@@ -60,7 +60,7 @@ module _ (file name first second : List ℕ) (answer : AllMarked) (plan : List C
 
     pub text-makes : (room : ℕ) → textMost ≤ room → Makes first second plan (answer .clusters) marks (answer .score) room
     text-makes room h =
-        accepted-makes r name first second (accept .0) (accept .1) (files-answerable file name first second z) plan (answer .clusters) marks (answer .score) room clusters-are taken
+        accepted-makes r first second (files-answerable file name first second z) plan (answer .clusters) marks (answer .score) room clusters-are taken
         (omega (arith, ap length wrote, files-marked file name first second before long z)) score-is h
 
     pub text-accepted : printedText (take (answer .clusters) plan) (mergedItems first second) marks (answer .score) ≡ comparedText file name first second

@@ -16,7 +16,8 @@ use Rattle.vcf.specs.Pos.{readPos}
 use Rattle.lines.specs.Lines.{number, fields}
 use Rattle.lines.proofs.FieldLaws.{number-pos, fields-few}
 use Rattle.compare.proofs.ReadLaws.{pos-le}
-use Rattle.compare.specs.Printed.{listNumber, entryLine, lineMost}
+use Rattle.clusters.specs.Listed.{listNumber}
+use Rattle.compare.specs.Printed.{entryLine, lineMost}
 
 pub number-read : (f : List ℕ) → 1 ≤ readPos f .0 → number (readPos f .0) ≡ f
 number-read f h = number-pos (readPos f .0) (pos-le f) ∙ decimal-read f h

@@ -25,7 +25,8 @@ use Rattle.clusters.specs.Merged.{mergedItems}
 use Rattle.clusters.proofs.CountLaws.{counts-marks}
 use Rattle.clusters.proofs.HeadsLaws.{passed-items}
 use Rattle.lines.proofs.WroteLaws.{Wrote, wrote-then, Left, left-begin, left-then}
-use Rattle.compare.specs.Printed.{heading, numbersFrom, entryLines, lineMost, totalLine, totalMost, printedText}
+use Rattle.clusters.specs.Listed.{numbersFrom}
+use Rattle.compare.specs.Printed.{heading, entryLines, lineMost, totalLine, totalMost, printedText}
 use Rattle.compare.proofs.LinesLaws.{lines-few, lines-split, lines-marks}
 use Rattle.compare.proofs.ReadLaws.{readable-passed}
 

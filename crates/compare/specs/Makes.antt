@@ -7,9 +7,10 @@ use lib.ListN.{length, take}
 use Rattle.clusters.specs.declared.plan.Cluster.{Cluster}
 use Rattle.clusters.specs.Counts.{mostEntries}
 use Rattle.clusters.specs.Heads.{Readable, startHeads}
+use Rattle.clusters.specs.Listed.{numbersFrom}
 use Rattle.clusters.specs.Merged.{mergedItems}
 use Rattle.lines.specs.Lines.{largestNumber}
-use Rattle.compare.specs.Printed.{numbersFrom, textMost}
+use Rattle.compare.specs.Printed.{textMost}
 
 -- The records of both lists can be read; the plan's first records, as many as there are clusters, give each entry a cluster's number; each
 -- entry has a mark; the score can be printed; and there is room for the text.

@@ -2,15 +2,16 @@
 -- its mark; the total line, with the entries marked `+` or `-`, those marked `0`, those marked `?`, and the score. Fields are
 -- TAB-separated.
 -- Assumes nothing: these are definitions.
-use mathlib.Core.Bool.{Bool, true, false}
+use mathlib.Core.Bool.{Bool}
 use mathlib.Core.List.{List, [], _∷_, _++_}
 use Prim.Native.Nat.{ℕ, _+_, _*_}
-use lib.ListN.{length, replicate}
+use lib.ListN.{length}
 use Rattle.bases.specs.declared.place.Pos.{Pos}
 use Rattle.clusters.specs.declared.count.Count.{Count}
 use Rattle.clusters.specs.declared.item.Item.{Item}
 use Rattle.clusters.specs.declared.plan.Cluster.{Cluster}
 use Rattle.clusters.specs.Counts.{mostEntries, countsOf, totals}
+use Rattle.clusters.specs.Listed.{listNumber, numbersFrom}
 use Rattle.vcf.specs.Bytes.{LF, TAB}
 use Rattle.lines.specs.Lines.{field, fieldMost, fields, fieldsMost}
 
@@ -24,19 +25,9 @@ heading =
 abbrev pub totalWord : List ℕ
 totalWord = 116 ∷ 111 ∷ 116 ∷ 97 ∷ 108 ∷ 9 ∷ []
 
--- The number of a list (`side`: list 1).
-abbrev pub listNumber : Bool → ℕ
-listNumber true = 1
-listNumber false = 2
-
 -- The line of an entry.
 abbrev pub entryLine : Bool → Pos → ℕ → ℕ → List ℕ
 entryLine side pos cluster mark = fields (listNumber side) (pos .0) cluster TAB ++ (mark ∷ []) ++ (LF ∷ [])
-
--- The clusters' numbers, from k on, one an entry.
-unfoldable pub numbersFrom : ℕ → List Cluster → List ℕ
-numbersFrom k [] = []
-numbersFrom k (c ∷ cs) = replicate (c .count) k ++ numbersFrom (k + 1) cs
 
 -- The lines of entries: their clusters' numbers, the entries and their marks stand in merged order.
 unfoldable pub entryLines : List ℕ → List Item → List ℕ → List ℕ
