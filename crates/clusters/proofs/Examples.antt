@@ -1,9 +1,9 @@
--- Document 01's examples of clusters, as the plan computes them: 1, 6, 7 and 8, in one table.
+-- Document 01's examples of clusters, as the plan computes them: 1, 6, 7 and 8, in one table; and the records of five entries.
 -- Assumes nothing.
 use mathlib.Core.Bool.{Bool}
 use mathlib.Core.List.{List, [], _∷_}
 use mathlib.Core.Path.{_≡_, refl}
-use Prim.Native.Nat.{ℕ}
+use Prim.Native.Nat.{ℕ, _+_}
 use lib.ListN.{length}
 use Rattle.bases.specs.Place.{placeOf}
 use Rattle.bases.specs.Letter.{among?, letterOf}
@@ -12,9 +12,12 @@ use Rattle.bases.specs.Same.{agree?}
 use Rattle.donors.specs.Apart.{All}
 use Rattle.donors.specs.Choice.{Variant}
 use Rattle.donors.specs.Rules.{list1, list2}
+use Rattle.vcf.specs.Entry.{entryOf}
+use Rattle.clusters.specs.declared.item.Item.{Item}
 use Rattle.clusters.specs.declared.plan.Cluster.{Cluster}
+use Rattle.clusters.specs.Listed.{numbersFrom, listedFrom}
 use Rattle.clusters.specs.Plan.{rest, plan, recordsFrom, cardPlan}
-use Rattle.clusters.specs.Merged.{weave, merged}
+use Rattle.clusters.specs.Merged.{weave, merged, itemOf}
 
 -- The letters.
 abbrev A : ℕ
@@ -75,3 +78,22 @@ table =
 pub examples : All (λ (r : Row). recordsFrom 0 (cardPlan (r .reference) (merged (λ (x : Variant). x .start) (r .first) (r .second))) ≡ r .plan) table
 unfolding among? letterOf anyPeriod? agree? weave merged rest plan recordsFrom
 examples = (refl, (refl, (refl, (refl, tt))))
+
+-- An entry, whose own numbers do not matter here, of each list.
+abbrev one : Item
+one = itemOf list1 (entryOf [] 0)
+
+abbrev two : Item
+two = itemOf list2 (entryOf [] 0)
+
+-- Five entries in merged order, the last two a cluster of their own. Two lines stand above the records of list 1, four above those of list 2.
+pub five-listed : listedFrom (record { first = record { entry = 0; line = 2 + 1 }; second = record { entry = 0; line = 4 + 1 } })
+    (numbersFrom 0 (record { first = 0; count = 3 } ∷ record { first = 3; count = 2 } ∷ [])) (one ∷ two ∷ two ∷ one ∷ two ∷ [])
+    ≡ record { list = 1; entry = 0; line = 3; cluster = 0 }
+    ∷ record { list = 2; entry = 0; line = 5; cluster = 0 }
+    ∷ record { list = 2; entry = 1; line = 6; cluster = 0 }
+    ∷ record { list = 1; entry = 1; line = 4; cluster = 1 }
+    ∷ record { list = 2; entry = 2; line = 7; cluster = 1 }
+    ∷ []
+unfolding listedFrom numbersFrom
+five-listed = refl

@@ -8,7 +8,7 @@
 use mathlib.Core.Bool.{Bool, true, false, Bool·beq}
 use mathlib.Core.List.{List, [], _∷_, map}
 use mathlib.Core.Path.{_≡_, refl, sym, ap, _∙_}
-use Prim.Native.Nat.{ℕ, zero, suc, _+_, _-_, _≤_, _<_}
+use Prim.Native.Nat.{ℕ, zero, suc, _+_, _-_, _<_}
 use native.Mathlib.Omega.{arith}
 use lib.ListN.{length, getD, List·getD-map}
 use Rattle.bases.proofs.TestLaws.{of-false}
@@ -20,7 +20,6 @@ use Rattle.clusters.specs.declared.item.Item.{Item}
 use Rattle.clusters.specs.declared.listed.Listed.{Listed}
 use Rattle.clusters.specs.declared.listed.Next.{Next}
 use Rattle.clusters.specs.declared.listed.Nexts.{Nexts}
-use Rattle.clusters.specs.declared.plan.Cluster.{Cluster}
 use Rattle.clusters.specs.Item.{textOf}
 use Rattle.clusters.specs.Listed.{listNumber, oneOn, nextOf, nextsAfter, numbersFrom, listedFrom, firstNext, firstNexts, listedOf}
 use Rattle.clusters.specs.Merged.{itemOf, itemsOf, mergedItems, mergedVariants}

@@ -15,7 +15,6 @@ use Prim.Native.Nat.{ℕ, zero, suc, _+_, _-_, _≤_, _<_, _^_}
 use native.Mathlib.Omega.{arith}
 use lib.ListN.{length}
 use Rattle.bases.specs.Letter.{basesOf}
-use Rattle.bases.specs.Pick.{pick}
 use Rattle.bases.proofs.TestLaws.{of-false}
 use Rattle.vcf.proofs.AboveLaws.{above-few}
 use Rattle.clusters.specs.declared.gap.Current.{Current}
@@ -26,8 +25,8 @@ use Rattle.clusters.specs.declared.listed.Listed.{Listed}
 use Rattle.clusters.specs.declared.listed.Nexts.{Nexts}
 use Rattle.clusters.specs.declared.listed.Stand.{Stand}
 use Rattle.clusters.specs.Counts.{one}
-use Rattle.clusters.specs.Gap.{Adds, more, nothing, begin, cut?, Kept}
-use Rattle.clusters.specs.Heads.{Ready, startHeads, itemsFrom, done?, nextItem, moved}
+use Rattle.clusters.specs.Gap.{Adds, more, nothing, cut?, Kept}
+use Rattle.clusters.specs.Heads.{Ready, startHeads, done?, nextItem, moved}
 use Rattle.clusters.specs.Item.{itemSize}
 use Rattle.clusters.specs.Listed.{nextOf, nextsAfter, listedAs}
 use Rattle.clusters.specs.Listing.{grown, passedBy, notListed, startStand, Going, cutAt?, begunAt, standAfter, listingFrom}

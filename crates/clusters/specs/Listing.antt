@@ -10,7 +10,6 @@ use Rattle.bases.specs.Letter.{basesOf}
 use Rattle.bases.specs.Pick.{pick}
 use Rattle.clusters.specs.declared.gap.Current.{Current}
 use Rattle.clusters.specs.declared.gap.Size.{Size}
-use Rattle.clusters.specs.declared.item.Item.{Item}
 use Rattle.clusters.specs.declared.listed.Listed.{Listed}
 use Rattle.clusters.specs.declared.listed.Listing.{Listing}
 use Rattle.clusters.specs.declared.listed.Nexts.{Nexts}
@@ -38,7 +37,8 @@ abbrev pub startStand : List ℕ → List ℕ → Stand
 startStand first second = record { heads = startHeads first second; nexts = firstNexts first second; current = nothing; begun = 0 }
 
 module _ (reference first second : List ℕ) where
-  -- What a step leans on: the entries from the cursors on can be read, and no number is above what the texts' lengths allow.
+  -- What a step leans on: the entries from the cursors on can be read, no number is above what the texts' lengths allow, and before the
+  -- first cluster nothing is kept of one.
   pub record Going (s : Stand) : Type 0 where
     pub ready : Ready reference first second (s .heads)
     pub few : passedBy (s .nexts) + length (itemsFrom first second (s .heads)) ≤ length first + length second

@@ -19,7 +19,7 @@ use Rattle.vcf.specs.Header.{headerLine?}
 use Rattle.vcf.specs.List.{linesOf}
 use Rattle.vcf.proofs.EntryLaws.{header-stop, header-more, header-past, above-stop, above-more, above-past, skip-lines-zero, skip-lines-past, skip-lines-more, entry-number, entries-iff}
 use Rattle.vcf.proofs.JudgeLaws.{lines-few}
-use Rattle.vcf.proofs.ListLaws.{lines-at, lines-past}
+use Rattle.vcf.proofs.ListLaws.{lines-at}
 
 above-le : (ls : List (List ℕ)) → headerLines ls ≤ length ls
 unfolding headerLines

@@ -1,6 +1,5 @@
 -- `clusters::gap::begin` meets its contract. Assumes nothing.
 use mathlib.Core.Path.{ap, _∙_}
-use native.Mathlib.Omega.{arith}
 use borrow.Author.Needs.{needs}
 use Rattle.clusters.specs.declared.gap.Current.{Current}
 use Rattle.clusters.specs.Gap.{more}
