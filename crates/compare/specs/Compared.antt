@@ -1,5 +1,5 @@
--- What compare prints for the bytes of its three files: reference.txt (bases, then one LF), first.vcf and second.vcf, and the name. Document
--- 01: a file that can't be read counts as empty; a reference file that does not end in LF is refused with 1.
+-- What compare prints for the bytes of its three files: reference.txt (bases, then one LF), first.vcf and second.vcf, and the name.
+-- Document 01: a file that can't be read counts as empty; a reference file that does not end in LF is refused with 1.
 -- Assumes nothing: these are definitions.
 use mathlib.Core.List.{List}
 use Prim.Native.Nat.{ℕ}
