@@ -13,7 +13,7 @@ use lib.ListN.{length, getD, take, drop, length-drop}
 use lib.Seq.{length-take-le}
 use Rattle.bases.specs.Put.{put}
 use Rattle.bases.proofs.PutLaws.{put-length, put-before, put-inside, put-behind, put-same, put-part}
-use Rattle.clusters.specs.Marks.{marksOf, clustersOf, firstEntry, clusterAt, allMarks}
+use Rattle.marks.specs.Marks.{marksOf, clustersOf, firstEntry, clusterAt, allMarks}
 use Rattle.clusters.specs.Merged.{mergedVariants}
 use Rattle.clusters.proofs.JoinLaws.{first-within, joined-at}
 use Rattle.donors.specs.Choice.{Variant}

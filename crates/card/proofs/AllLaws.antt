@@ -20,7 +20,7 @@ use Rattle.bases.proofs.PutLaws.{put-none, put-put, put-length}
 use Rattle.bases.proofs.TestLaws.{neither}
 use Rattle.clusters.specs.declared.plan.Cluster.{Cluster}
 use Rattle.clusters.specs.Lent.{isPlan?}
-use Rattle.clusters.specs.Marks.{marksOf, clustersOf, clusterAt, firstEntry, allMarks, totalScore}
+use Rattle.marks.specs.Marks.{marksOf, clustersOf, clusterAt, firstEntry, allMarks, totalScore}
 use Rattle.clusters.specs.Plan.{planOf}
 use Rattle.clusters.proofs.JoinLaws.{first-within, join-more, join-long}
 use Rattle.donors.specs.Choice.{Variant}

@@ -29,15 +29,15 @@ use Rattle.bases.proofs.ReferenceLaws.{reference-iff}
 use Rattle.bases.proofs.TestLaws.{both}
 use Rattle.bases.specs.Pick.{pick}
 use Rattle.vcf.specs.declared.entry.Entry.{Entry}
-use Rattle.vcf.specs.Allele.{longestAllele, isAllele?, firstAlt, twoAlts?, secondAlt}
-use Rattle.vcf.specs.Bytes.{COMMA, until}
+use Rattle.fields.specs.Allele.{longestAllele, isAllele?, firstAlt, twoAlts?, secondAlt}
+use Rattle.fields.specs.Bytes.{COMMA, until}
 use Rattle.vcf.specs.Entry.{lineAt, entryOf, recordAt}
-use Rattle.vcf.specs.Field.{fieldAt, field}
-use Rattle.vcf.specs.Record.{posOn}
+use Rattle.fields.specs.Field.{fieldAt, field}
+use Rattle.records.specs.Record.{posOn}
 use Rattle.vcf.specs.List.{longestText}
 use Rattle.vcf.proofs.JudgeLaws.{accepted-zero, text-fits}
 use Rattle.vcf.proofs.PartLaws.{first-within, second-within, first-bytes, second-bytes}
-use Rattle.vcf.proofs.RecordLineLaws.{first-allele, second-allele}
+use Rattle.records.proofs.RecordLineLaws.{first-allele, second-allele}
 use Rattle.card.specs.declared.allele.Shown.{Shown}
 use Rattle.card.specs.declared.refusal.Refusal.{Refusal}
 use Rattle.card.specs.Allele.{entryNumber, alleleRefusal, ofReference, ofText, shownOf, refusedShown, shown, bytesShown, ptrShown}

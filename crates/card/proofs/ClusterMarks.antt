@@ -15,7 +15,7 @@ use borrow.Author.Tests.{leb-false, le-leb, lt-leb}
 use lib.ListN.{length, getD, replicate, length-append, length-replicate, getD-replicate}
 use Rattle.bases.specs.Letter.{basesOf}
 use Rattle.bases.specs.Pick.{pick}
-use Rattle.clusters.specs.Marks.{QUESTION, decided?, marksOf, clustersOf, firstEntry, clusterAt, allMarks}
+use Rattle.marks.specs.Marks.{QUESTION, decided?, marksOf, clustersOf, firstEntry, clusterAt, allMarks}
 use Rattle.clusters.specs.Merged.{mergedItems, mergedVariants}
 use Rattle.clusters.specs.Item.{variant}
 use Rattle.clusters.specs.declared.plan.Cluster.{Cluster}

@@ -10,18 +10,18 @@ use Prim.Native.Nat.{ℕ}
 use lib.ListN.{replicate}
 use Rattle.bases.specs.Letter.{among?, letterOf, allLetters?}
 use Rattle.bases.specs.Same.{agree?}
-use Rattle.clusters.specs.Counts.{howMany, ownMarks}
+use Rattle.marks.specs.Counts.{howMany, ownMarks}
 use Rattle.clusters.specs.Merged.{weave, merged}
 use Rattle.matching.specs.Cut.{join}
-use Rattle.vcf.specs.Allele.{altsWrong?}
-use Rattle.vcf.specs.Bytes.{until}
+use Rattle.fields.specs.Allele.{altsWrong?}
+use Rattle.fields.specs.Bytes.{until}
 use Rattle.vcf.specs.Entry.{headerBytes, entriesFrom}
-use Rattle.vcf.specs.Field.{full?, skip}
-use Rattle.vcf.specs.Genotype.{copiesWrong?}
-use Rattle.vcf.specs.Header.{headerWrong?}
+use Rattle.fields.specs.Field.{full?, skip}
+use Rattle.fields.specs.Genotype.{copiesWrong?}
+use Rattle.fields.specs.Header.{headerWrong?}
 use Rattle.vcf.specs.List.{linesOf, judgeLines, judgeText}
-use Rattle.vcf.specs.Pos.{allDigits?, isPos?, valueFrom}
-use Rattle.vcf.specs.Row.{firstRow}
+use Rattle.fields.specs.Pos.{allDigits?, isPos?, valueFrom}
+use Rattle.records.specs.Row.{firstRow}
 use Rattle.card.specs.declared.count.Counted.{Counted}
 use Rattle.card.specs.Answer.{answer}
 use Rattle.card.specs.Count.{countedOf, noCounts, counted}

@@ -18,10 +18,10 @@ use Rattle.bases.specs.Put.{put}
 use Rattle.bases.proofs.PutLaws.{put-length}
 use Rattle.bases.proofs.TestLaws.{neither}
 use Rattle.clusters.specs.declared.plan.Cluster.{Cluster}
-use Rattle.clusters.specs.Counts.{countsOf}
-use Rattle.clusters.specs.Marks.{clustersOf, allMarks}
+use Rattle.marks.specs.Counts.{countsOf}
+use Rattle.marks.specs.Marks.{clustersOf, allMarks}
 use Rattle.clusters.specs.Merged.{mergedItems}
-use Rattle.clusters.proofs.EntryCounts.{Marked, all-marked, counts-entries}
+use Rattle.marks.proofs.EntryCounts.{Marked, all-marked, counts-entries}
 use Rattle.vcf.specs.Entry.{entriesOf}
 use Rattle.card.specs.declared.count.Counted.{Counted}
 use Rattle.card.specs.declared.refusal.Refusal.{Refusal}

@@ -11,7 +11,7 @@ use Prim.Native.Nat.{ℕ, _≤_, _<_}
 use native.Mathlib.Omega.{arith}
 use lib.ListN.{length, getD}
 use Rattle.bases.specs.Letter.{basesOf}
-use Rattle.clusters.specs.Marks.{clustersOf, allMarks}
+use Rattle.marks.specs.Marks.{clustersOf, allMarks}
 use Rattle.clusters.specs.Merged.{mergedVariants}
 use Rattle.clusters.proofs.CardClusters.{clusters-best, clusters-pair}
 use Rattle.donors.specs.Apart.{All}

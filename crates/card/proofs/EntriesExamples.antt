@@ -9,20 +9,20 @@ use Prim.Native.Nat.{ℕ}
 use Rattle.bases.specs.Letter.{among?, letterOf, allLetters?}
 use Rattle.bases.specs.Period.{anyPeriod?}
 use Rattle.bases.specs.Same.{agree?}
-use Rattle.clusters.specs.declared.listed.Listed.{Listed}
-use Rattle.clusters.specs.Listed.{numbersFrom, listedFrom, listedOf}
+use Rattle.listed.specs.declared.listed.Listed.{Listed}
+use Rattle.listed.specs.Listed.{numbersFrom, listedFrom, listedOf}
 use Rattle.clusters.specs.Merged.{weave, merged}
 use Rattle.clusters.specs.Plan.{rest, plan, recordsFrom}
 use Rattle.matching.specs.Cut.{join}
-use Rattle.vcf.specs.Allele.{altsWrong?}
-use Rattle.vcf.specs.Bytes.{until}
+use Rattle.fields.specs.Allele.{altsWrong?}
+use Rattle.fields.specs.Bytes.{until}
 use Rattle.vcf.specs.Entry.{headerBytes, headerLines, entriesFrom}
-use Rattle.vcf.specs.Field.{full?, skip}
-use Rattle.vcf.specs.Genotype.{copiesWrong?}
-use Rattle.vcf.specs.Header.{headerWrong?}
+use Rattle.fields.specs.Field.{full?, skip}
+use Rattle.fields.specs.Genotype.{copiesWrong?}
+use Rattle.fields.specs.Header.{headerWrong?}
 use Rattle.vcf.specs.List.{linesOf, judgeLines, judgeText}
-use Rattle.vcf.specs.Pos.{allDigits?, isPos?, valueFrom}
-use Rattle.vcf.specs.Row.{firstRow}
+use Rattle.fields.specs.Pos.{allDigits?, isPos?, valueFrom}
+use Rattle.records.specs.Row.{firstRow}
 use Rattle.card.specs.Answer.{answer}
 use Rattle.card.specs.Entries.{listed, listedAfter}
 use Rattle.card.specs.Examples.{ascii, chr1, hom, text}

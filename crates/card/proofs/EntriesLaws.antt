@@ -12,13 +12,13 @@ use native.Mathlib.Omega.{arith}
 use lib.Dec.{ltb}
 use lib.ListN.{length, take, getD, length-append}
 use Rattle.clusters.specs.declared.plan.Cluster.{Cluster}
-use Rattle.clusters.specs.Listed.{listedOf}
-use Rattle.clusters.specs.Listing.{notListed}
-use Rattle.clusters.specs.Marks.{clustersOf, allMarks}
+use Rattle.listed.specs.Listed.{listedOf}
+use Rattle.listed.specs.Listing.{notListed}
+use Rattle.marks.specs.Marks.{clustersOf, allMarks}
 use Rattle.clusters.specs.Merged.{itemOf}
 use Rattle.clusters.specs.Plan.{recordsFrom}
 use Rattle.clusters.proofs.FirstLaws.{records-length}
-use Rattle.clusters.proofs.ListedLaws.{listed-length, listed-cluster}
+use Rattle.listed.proofs.ListedLaws.{listed-length, listed-cluster}
 use Rattle.donors.specs.Choice.{Choice, Variant}
 use Rattle.donors.specs.Rules.{list1}
 use Rattle.matching.specs.Cut.{join}

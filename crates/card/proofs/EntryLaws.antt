@@ -11,7 +11,7 @@ use native.Mathlib.Omega.{arith}
 use lib.ListN.{length, getD}
 use lib.Seq.{ext-getD}
 use Rattle.bases.specs.Letter.{basesOf}
-use Rattle.clusters.specs.Marks.{marksOf, clustersOf, firstEntry, clusterAt, allMarks}
+use Rattle.marks.specs.Marks.{marksOf, clustersOf, firstEntry, clusterAt, allMarks}
 use Rattle.clusters.specs.Merged.{mergedVariants}
 use Rattle.clusters.proofs.CardClusters.{clusters-pair}
 use Rattle.clusters.proofs.JoinLaws.{first-apart, join-of, joined-at}

@@ -20,7 +20,7 @@ use Rattle.bases.specs.Reference.{isReference?}
 use Rattle.bases.proofs.TestLaws.{neither}
 use Rattle.clusters.specs.declared.plan.Cluster.{Cluster}
 use Rattle.clusters.specs.Lent.{isPlan?}
-use Rattle.clusters.specs.Marks.{clustersOf, firstEntry, clusterAt, isCluster?, marksOf, markedOf, notFound, askedFor, marksAfter}
+use Rattle.marks.specs.Marks.{clustersOf, firstEntry, clusterAt, isCluster?, marksOf, markedOf, notFound, askedFor, marksAfter}
 use Rattle.clusters.specs.Plan.{planOf}
 use Rattle.donors.specs.Choice.{Variant}
 use Rattle.vcf.specs.List.{judgeText}

@@ -10,7 +10,7 @@ use borrow.Author.Tests.{eq-eqb, ne-eqb}
 use lib.Dec.{ltb}
 use lib.ListN.{length}
 use Rattle.bases.specs.Put.{put}
-use Rattle.normal.specs.Written.{writtenText}
+use Rattle.written.specs.Written.{writtenText}
 use Rattle.card.specs.declared.refusal.Refusal.{Refusal}
 use Rattle.card.specs.Answer.{answer, refusedAnswer}
 use Rattle.card.specs.Normal.{normalRefusal, written, normalAfter}

@@ -6,7 +6,7 @@ use Prim.Native.Nat.{ℕ}
 use Rattle.bases.specs.Letter.{among?, letterOf, allLetters?}
 use Rattle.bases.specs.Period.{anyPeriod?}
 use Rattle.bases.specs.Same.{agree?}
-use Rattle.clusters.specs.Marks.{totalScore}
+use Rattle.marks.specs.Marks.{totalScore}
 use Rattle.clusters.specs.Merged.{weave, merged}
 use Rattle.clusters.specs.Plan.{rest, plan, recordsFrom}
 use Rattle.donors.specs.Apart.{All, chain?}
@@ -18,16 +18,16 @@ use Rattle.matching.specs.Cut.{join}
 use Rattle.matching.specs.Search.{first?, better, bestOver, search}
 use Rattle.normal.specs.Cut.{run, all?, shortest}
 use Rattle.normal.specs.Spelled.{normalEntry}
-use Rattle.normal.specs.Written.{digitsOf, writtenLine, putLine, writtenLines, textOf, writtenText}
-use Rattle.vcf.specs.Allele.{altsWrong?}
-use Rattle.vcf.specs.Bytes.{until}
+use Rattle.written.specs.Written.{digitsOf, writtenLine, putLine, writtenLines, textOf, writtenText}
+use Rattle.fields.specs.Allele.{altsWrong?}
+use Rattle.fields.specs.Bytes.{until}
 use Rattle.vcf.specs.Entry.{headerBytes, entriesFrom}
-use Rattle.vcf.specs.Field.{full?, skip}
-use Rattle.vcf.specs.Genotype.{copiesWrong?}
-use Rattle.vcf.specs.Header.{headerWrong?}
+use Rattle.fields.specs.Field.{full?, skip}
+use Rattle.fields.specs.Genotype.{copiesWrong?}
+use Rattle.fields.specs.Header.{headerWrong?}
 use Rattle.vcf.specs.List.{linesOf, judgeLines, judgeText}
-use Rattle.vcf.specs.Pos.{allDigits?, isPos?, valueFrom}
-use Rattle.vcf.specs.Row.{firstRow}
+use Rattle.fields.specs.Pos.{allDigits?, isPos?, valueFrom}
+use Rattle.records.specs.Row.{firstRow}
 use Rattle.card.specs.Examples.{text, hom, cluster, Example, normal, marks}
 use Rattle.card.proofs.Examples.{Holds, three, six}
 

@@ -12,7 +12,7 @@ use Rattle.bases.proofs.ReferenceLaws.{reference-iff}
 use Rattle.bases.proofs.TestLaws.{of-true}
 use Rattle.clusters.specs.Heads.{Ready, startHeads}
 use Rattle.clusters.specs.Item.{variant}
-use Rattle.clusters.specs.Marks.{clustersOf, totalScore}
+use Rattle.marks.specs.Marks.{clustersOf, totalScore}
 use Rattle.clusters.specs.Merged.{mergedItems}
 use Rattle.clusters.specs.Plan.{planOf}
 use Rattle.clusters.proofs.CardClusters.{map-length}

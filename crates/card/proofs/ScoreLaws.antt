@@ -12,7 +12,7 @@ use borrow.Author.Tests.{leb-true}
 use lib.ListN.{length, length-append}
 use Rattle.bases.specs.Letter.{basesOf}
 use Rattle.bases.specs.Pick.{pick}
-use Rattle.clusters.specs.Marks.{decided?, scoreOf, markedOf, notFound, clusterAt, isCluster?, askedFor, totalScore}
+use Rattle.marks.specs.Marks.{decided?, scoreOf, markedOf, notFound, clusterAt, isCluster?, askedFor, totalScore}
 use Rattle.donors.specs.Choice.{Choice, plus, minus, out, Variant}
 use Rattle.donors.specs.Table.{most}
 use Rattle.matching.specs.Best.{score}

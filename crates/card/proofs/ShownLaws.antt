@@ -17,13 +17,13 @@ use lib.Dec.{T, T-not, eqb, leb, ltb}
 use lib.ListN.{length}
 use Rattle.bases.specs.Reference.{isReference?}
 use Rattle.bases.proofs.TestLaws.{of-true, neither}
-use Rattle.vcf.specs.Allele.{altCount}
+use Rattle.fields.specs.Allele.{altCount}
 use Rattle.vcf.specs.Entry.{lineAt, entryOf, entriesOf, recordsAt, recordAt}
-use Rattle.vcf.specs.Field.{field}
+use Rattle.fields.specs.Field.{field}
 use Rattle.vcf.specs.List.{judgeText}
 use Rattle.vcf.proofs.AcceptedLaws.{accepted-line}
 use Rattle.vcf.proofs.EntryLaws.{entry-none, entry-number, entries-iff}
-use Rattle.vcf.proofs.RecordLineLaws.{RecordLine}
+use Rattle.records.proofs.RecordLineLaws.{RecordLine}
 use Rattle.vcf.specs.declared.entry.Entry.{Entry}
 use Rattle.vcf.specs.declared.list.Fault.{Fault}
 use Rattle.card.specs.declared.refusal.Refusal.{Refusal}

@@ -26,23 +26,23 @@ use Rattle.donors.specs.Apart.{All}
 use Rattle.donors.specs.Choice.{Copy, plus, minus, out, copy0, copy1, other}
 use Rattle.donors.specs.Donor.{Edit, donorFrom, donor}
 use Rattle.donors.specs.Rules.{edits}
-use Rattle.normal.specs.Entries.{Beside, normalPos, putEntry, putEntries, newOrder, InNormalForm}
+use Rattle.written.specs.Entries.{Beside, normalPos, putEntry, putEntries, newOrder, InNormalForm}
 use Rattle.normal.specs.Form.{alleles, OnReference, donor as donorOn}
 use Rattle.normal.specs.Spelled.{formOf}
-use Rattle.normal.specs.Written.{writtenText}
+use Rattle.written.specs.Written.{writtenText}
 use Rattle.normal.proofs.DonorLaws.{donors-all}
 use Rattle.normal.proofs.MemberLaws.{map-at}
-use Rattle.normal.proofs.WrittenEntries.{written-entries}
-use Rattle.normal.proofs.WrittenList.{written-accepted, written-twice}
+use Rattle.written.proofs.WrittenEntries.{written-entries}
+use Rattle.written.proofs.WrittenList.{written-accepted, written-twice}
 use Rattle.vcf.specs.declared.entry.Entry.{Entry}
-use Rattle.vcf.specs.Allele.{altCount, twoAlts?}
+use Rattle.fields.specs.Allele.{altCount, twoAlts?}
 use Rattle.vcf.specs.Entry.{part, lineAt, bytesOf, entryOf, recordsAt, entriesOf}
-use Rattle.vcf.specs.Field.{field}
-use Rattle.vcf.specs.Genotype.{formatWrong?, copiesWrong?}
+use Rattle.fields.specs.Field.{field}
+use Rattle.fields.specs.Genotype.{formatWrong?, copiesWrong?}
 use Rattle.vcf.specs.List.{judgeText}
-use Rattle.vcf.specs.Record.{genotypeOn}
+use Rattle.records.specs.Record.{genotypeOn}
 use Rattle.vcf.proofs.AcceptedLaws.{accepted-records}
-use Rattle.vcf.proofs.RecordLineLaws.{RecordLine}
+use Rattle.records.proofs.RecordLineLaws.{RecordLine}
 use Rattle.card.specs.WrittenDonors.{donorAlone, SameAlone, WrittenSame}
 
 -- Where REF starts; the number of the allele for a copy.

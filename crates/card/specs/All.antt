@@ -7,7 +7,7 @@ use lib.ListN.{length, replicate}
 use Rattle.bases.specs.Pick.{pick}
 use Rattle.bases.specs.Put.{put}
 use Rattle.clusters.specs.declared.plan.Cluster.{Cluster}
-use Rattle.clusters.specs.Marks.{clustersOf, allMarks, totalScore}
+use Rattle.marks.specs.Marks.{clustersOf, allMarks, totalScore}
 use Rattle.clusters.specs.Plan.{planOf}
 use Rattle.card.specs.declared.all.AllMarked.{AllMarked}
 use Rattle.card.specs.declared.answer.Answer.{Answer}

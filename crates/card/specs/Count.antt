@@ -5,9 +5,9 @@ use Prim.Native.Nat.{ℕ}
 use lib.Dec.{eqb, ltb}
 use lib.ListN.{length}
 use Rattle.bases.specs.Pick.{pick}
-use Rattle.clusters.specs.declared.count.Count.{Count}
-use Rattle.clusters.specs.declared.count.Counts.{Counts}
-use Rattle.clusters.specs.Counts.{countsOf}
+use Rattle.marks.specs.declared.count.Count.{Count}
+use Rattle.marks.specs.declared.count.Counts.{Counts}
+use Rattle.marks.specs.Counts.{countsOf}
 use Rattle.clusters.specs.Merged.{mergedItems}
 use Rattle.card.specs.declared.answer.Answer.{Answer}
 use Rattle.card.specs.declared.count.Counted.{Counted}

@@ -8,7 +8,7 @@ use lib.ListN.{length, getD, take, drop}
 use Rattle.bases.specs.Letter.{basesOf}
 use Rattle.bases.specs.Put.{put}
 use Rattle.clusters.specs.declared.plan.Cluster.{Cluster}
-use Rattle.clusters.specs.Marks.{QUESTION, clustersOf, firstEntry, clusterAt}
+use Rattle.marks.specs.Marks.{QUESTION, clustersOf, firstEntry, clusterAt}
 use Rattle.clusters.specs.Merged.{mergedVariants}
 use Rattle.donors.specs.Choice.{Choice, Variant}
 use Rattle.donors.specs.Table.{most}

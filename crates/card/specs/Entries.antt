@@ -6,8 +6,8 @@ use lib.Dec.{eqb}
 use lib.ListN.{length}
 use Rattle.bases.specs.Pick.{pick}
 use Rattle.bases.specs.Put.{put}
-use Rattle.clusters.specs.declared.listed.Listed.{Listed}
-use Rattle.clusters.specs.Listed.{listedOf}
+use Rattle.listed.specs.declared.listed.Listed.{Listed}
+use Rattle.listed.specs.Listed.{listedOf}
 use Rattle.card.specs.declared.answer.Answer.{Answer}
 use Rattle.card.specs.declared.refusal.Refusal.{Refusal}
 use Rattle.card.specs.Answer.{answerOf}

@@ -6,10 +6,10 @@ use Prim.Native.Nat.{ℕ}
 use lib.Dec.{eqb, ltb}
 use lib.ListN.{length}
 use Rattle.bases.specs.Pick.{pick}
-use Rattle.clusters.specs.declared.mark.Marked.{Marked}
+use Rattle.marks.specs.declared.mark.Marked.{Marked}
 use Rattle.clusters.specs.declared.plan.Cluster.{Cluster}
 use Rattle.clusters.specs.Lent.{isPlan?}
-use Rattle.clusters.specs.Marks.{decided?, scoreOf, clustersOf, clusterAt, isCluster?, marksAfter}
+use Rattle.marks.specs.Marks.{decided?, scoreOf, clustersOf, clusterAt, isCluster?, marksAfter}
 use Rattle.clusters.specs.Plan.{planOf}
 use Rattle.donors.specs.Choice.{Variant}
 use Rattle.card.specs.declared.answer.Answer.{Answer}

@@ -6,7 +6,7 @@ use lib.Dec.{eqb, ltb}
 use lib.ListN.{length}
 use Rattle.bases.specs.Pick.{pick}
 use Rattle.bases.specs.Put.{put}
-use Rattle.normal.specs.Written.{writtenText}
+use Rattle.written.specs.Written.{writtenText}
 use Rattle.card.specs.declared.answer.Answer.{Answer}
 use Rattle.card.specs.declared.refusal.Refusal.{Refusal}
 use Rattle.card.specs.Answer.{answerOf}

@@ -9,8 +9,8 @@ use Rattle.bases.specs.Letter.{basesOf}
 use Rattle.clusters.specs.Item.{variantOf}
 use Rattle.donors.specs.Choice.{Choice, Copy, cardRules}
 use Rattle.donors.specs.Rules.{donorOf}
-use Rattle.normal.specs.Entries.{Beside, newOrder, EntriesNormal}
-use Rattle.normal.specs.Written.{writtenText}
+use Rattle.written.specs.Entries.{Beside, newOrder, EntriesNormal}
+use Rattle.written.specs.Written.{writtenText}
 use Rattle.vcf.specs.declared.entry.Entry.{Entry}
 use Rattle.vcf.specs.Entry.{entriesOf}
 use Rattle.vcf.specs.List.{judgeText}

@@ -7,9 +7,9 @@ use crate::answer::Answer;
 use crate::lists::LEAST;
 use crate::lists::is_small;
 use crate::lists::lists_refused;
-use clusters::mark::mark_every;
 use clusters::plan::Cluster;
 use clusters::plan::fill_plan;
+use marks::mark::mark_every;
 
 // What is answered: the three numbers of a refusal, or zeros; the number of clusters; and the score summed over the decided ones.
 #[repr(C)]

@@ -1,13 +1,13 @@
 // The call `count`: what the marks of two lists count.
 ghost use mathlib.Core.Path.{_≡_};
-ghost use Rattle.clusters.specs.Counts.{Few};
+ghost use Rattle.marks.specs.Counts.{Few};
 ghost use Rattle.card.specs.Count.{countedOf, counted};
 use crate::answer::Answer;
 use crate::lists::LEAST;
 use crate::lists::lists_refused;
-use clusters::count::Count;
-use clusters::count::Counts;
-use clusters::count::count_lists;
+use marks::count::Count;
+use marks::count::Counts;
+use marks::count::count_lists;
 
 // What is answered: the three numbers of a refusal, or zeros; then how many entries of list 1 are matched, unmatched and undecided, and how
 // many of list 2.

@@ -6,8 +6,8 @@ use crate::answer::Answer;
 use crate::answer::give;
 use crate::lists::LEAST;
 use crate::lists::lists_refused;
-use clusters::listed::Listed;
-use clusters::listed::fill_entries;
+use listed::listed::Listed;
+use listed::listed::fill_entries;
 
 // Writes the records of two lists' entries in merged order, one an entry, into `entries`, which has to have room for 1,024. Rows: 1; 2;
 // list 1; list 2. Value: the number of entries. No other record changes.

@@ -5,7 +5,7 @@ ghost use lib.ListN.{length};
 ghost use Rattle.bases.specs.Pick.{pick};
 ghost use Rattle.bases.specs.Reference.{longestReference};
 ghost use Rattle.clusters.specs.Heads.{Ready, startHeads};
-ghost use Rattle.clusters.specs.Marks.{clustersOf, askedFor, marksAfter};
+ghost use Rattle.marks.specs.Marks.{clustersOf, askedFor, marksAfter};
 ghost use Rattle.clusters.specs.Merged.{mergedItems};
 ghost use Rattle.card.specs.Mark.{marked, answerAsked, markAfter};
 use crate::answer::Answer;
@@ -13,9 +13,9 @@ use crate::answer::give;
 use crate::answer::refuse;
 use crate::lists::is_small;
 use crate::lists::lists_refused;
-use clusters::mark::mark_one;
 use clusters::plan::Cluster;
 use clusters::plan::is_plan;
+use marks::mark::mark_one;
 
 // The value that says that a cluster is undecided.
 pub const UNDECIDED: u32 = 4_294_967_295;

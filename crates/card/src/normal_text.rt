@@ -5,7 +5,7 @@ ghost use Rattle.card.specs.Normal.{written, normalAfter};
 use crate::answer::Answer;
 use crate::answer::give;
 use crate::lists::list_refused;
-use normal::list::write_list;
+use written::list::write_list;
 
 // Writes the list in normal form into `out`, which has to be as long as the text. Rows: 1; 2; the list's. Value: the bytes written. Nothing
 // else of `out` changes.

@@ -4,7 +4,7 @@ ghost use lib.ListN.{length};
 ghost use Rattle.card.specs.Entries.{listed, listedAfter};
 use card::answer::Answer;
 use card::entries::entries as list_entries;
-use clusters::listed::Listed;
+use listed::listed::Listed;
 
 // Writes the records of two lists' entries in merged order into `entries`. Answered: number 0, and value is the number of entries.
 #[no_mangle]

@@ -17,9 +17,7 @@ use denote.Triple.Entry.{Args, Res}
 use denote.Triple.Clauses.{Ended, AtExit, Clauses}
 use Rattle.bases.specs.Put.{put}
 use Rattle.clusters.specs.Lent.{isPlan?}
-use Rattle.clusters.specs.Listed.{listedOf}
 use Rattle.clusters.specs.Plan.{planOf}
-use Rattle.clusters.proofs.listed.fill_entries as fill-entries
 use Rattle.clusters.proofs.plan.fill_plan as fill-plan
 use Rattle.clusters.proofs.plan.is_plan as is-plan
 
@@ -45,18 +43,6 @@ fill-plan-states M 𝓤 H A mem run κs a g z e = refl
 pub fill-plan-determines : (κs : Lfts 4) (a : Args fill-plan.signature κs) (z z′ : Res fill-plan.signature κs) (e e′ : AtExit fill-plan.ended κs)
     → Filled κs a z e → Filled κs a z′ e′ → (z ≡ z′) × (now (e .1 .1 .1 .0) ≡ now (e′ .1 .1 .1 .0))
 fill-plan-determines κs a z z′ e e′ p q = (p .0 ∙ sym (q .0), p .1 ∙ sym (q .1))
-
-abbrev pub Listed : Relation fill-entries.ended
-Listed κs a z e =
-    (z ≡ length (listedOf (now (a .0)) (now (a .1 .0)) (now (a .1 .1 .0))))
-    × (now (e .1 .1 .1 .0) ≡ put (now (a .1 .1 .1 .0)) 0 (listedOf (now (a .0)) (now (a .1 .0)) (now (a .1 .1 .0))))
-
-pub fill-entries-states : States fill-entries.ended (λ M 𝓤 H. fill-entries.clauses 𝓤 H) Listed
-fill-entries-states M 𝓤 H A mem run κs a g z e = refl
-
-pub fill-entries-determines : (κs : Lfts 4) (a : Args fill-entries.signature κs) (z z′ : Res fill-entries.signature κs) (e e′ : AtExit fill-entries.ended κs)
-    → Listed κs a z e → Listed κs a z′ e′ → (z ≡ z′) × (now (e .1 .1 .1 .0) ≡ now (e′ .1 .1 .1 .0))
-fill-entries-determines κs a z z′ e e′ p q = (p .0 ∙ sym (q .0), p .1 ∙ sym (q .1))
 
 abbrev pub Judged : Relation is-plan.ended
 Judged κs a z e = z ≡ isPlan? (planOf (now (a .0)) (now (a .1 .0)) (now (a .1 .1 .0))) (now (a .1 .1 .1 .0))

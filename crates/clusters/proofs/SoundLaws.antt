@@ -23,19 +23,19 @@ use Rattle.bases.proofs.TestLaws.{of-true, both, neither}
 use Rattle.bases.specs.Pick.{pick}
 use Rattle.donors.specs.Apart.{All}
 use Rattle.vcf.specs.declared.entry.Entry.{Entry}
-use Rattle.vcf.specs.Allele.{longestAllele, isAllele?, firstAlt, twoAlts?, secondAlt, altCount}
-use Rattle.vcf.specs.Bytes.{COMMA, until}
+use Rattle.fields.specs.Allele.{longestAllele, isAllele?, firstAlt, twoAlts?, secondAlt, altCount}
+use Rattle.fields.specs.Bytes.{COMMA, until}
 use Rattle.vcf.specs.Entry.{lineAt, nextLine, entryOf, entriesFrom}
-use Rattle.vcf.specs.Field.{field}
-use Rattle.vcf.specs.Genotype.{digitTo?, separator?, formatWrong?, copiesWrong?, copy0, copy1}
+use Rattle.fields.specs.Field.{field}
+use Rattle.fields.specs.Genotype.{digitTo?, separator?, formatWrong?, copiesWrong?, copy0, copy1}
 use Rattle.vcf.specs.List.{linesOf}
-use Rattle.vcf.specs.Pos.{digit?}
-use Rattle.vcf.specs.Record.{posOn, genotypeOn}
+use Rattle.fields.specs.Pos.{digit?}
+use Rattle.records.specs.Record.{posOn, genotypeOn}
 use Rattle.vcf.proofs.AcceptedLaws.{Records, RecordsFrom, records-here, records-next}
-use Rattle.vcf.proofs.BytesLaws.{until-le}
+use Rattle.fields.proofs.BytesLaws.{until-le}
 use Rattle.vcf.proofs.EntryLaws.{entriesAt, entries-at, entries-past}
 use Rattle.vcf.proofs.PartLaws.{first-within, second-within, first-bytes, second-bytes}
-use Rattle.vcf.proofs.RecordLineLaws.{RecordLine, record-line, first-allele, second-allele}
+use Rattle.records.proofs.RecordLineLaws.{RecordLine, record-line, first-allele, second-allele}
 use Rattle.clusters.specs.Item.{startOf, alleleOf, lenOf, Sound}
 use Rattle.clusters.proofs.MergedLaws.{SortedBy}
 

@@ -17,7 +17,7 @@ use Rattle.bases.specs.Letter.{basesOf}
 use Rattle.donors.specs.Choice.{Variant, cardRules}
 use Rattle.donors.specs.Items.{only}
 use Rattle.donors.specs.Rules.{list1, list2}
-use Rattle.vcf.specs.Allele.{longestAllele}
+use Rattle.fields.specs.Allele.{longestAllele}
 use Rattle.clusters.specs.declared.gap.Current.{Current}
 use Rattle.clusters.specs.declared.gap.Size.{Size}
 use Rattle.clusters.specs.declared.heads.Heads.{Heads}

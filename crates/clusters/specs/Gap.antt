@@ -12,7 +12,7 @@ use Rattle.bases.specs.Period.{anyPeriod?}
 use Rattle.donors.specs.Donor.{part}
 use Rattle.donors.specs.Items.{only}
 use Rattle.donors.specs.Rules.{Rules, list1, list2}
-use Rattle.vcf.specs.Allele.{longestAllele}
+use Rattle.fields.specs.Allele.{longestAllele}
 use Rattle.clusters.specs.declared.gap.Size.{Size}
 use Rattle.clusters.specs.declared.gap.Current.{Current}
 

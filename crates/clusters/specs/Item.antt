@@ -10,7 +10,7 @@ use Rattle.bases.specs.declared.place.Place.{Place}
 use Rattle.bases.specs.Place.{placeOf}
 use Rattle.donors.specs.Choice.{Variant}
 use Rattle.vcf.specs.declared.entry.Entry.{Entry}
-use Rattle.vcf.specs.Allele.{longestAllele}
+use Rattle.fields.specs.Allele.{longestAllele}
 use Rattle.vcf.specs.Entry.{part, bytesOf}
 use Rattle.clusters.specs.declared.gap.Size.{Size}
 use Rattle.clusters.specs.declared.item.Item.{Item}

@@ -1,14 +1,7 @@
-pub mod Counts
 pub mod Gap
 pub mod Heads
 pub mod Item
 pub mod Lent
-pub mod Listed
-pub mod Listing
-pub mod Markable
-pub mod Marks
 pub mod Merged
 pub mod Plan
-pub mod Row
-pub mod Skip
 pub mod Walk

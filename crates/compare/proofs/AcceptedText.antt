@@ -9,11 +9,11 @@ use lib.ListN.{length, take}
 use Rattle.card.proofs.ReadyLaws.{Answerable}
 use Rattle.clusters.specs.declared.plan.Cluster.{Cluster}
 use Rattle.clusters.specs.Heads.{startHeads}
-use Rattle.clusters.specs.Marks.{clustersOf, totalScore}
+use Rattle.marks.specs.Marks.{clustersOf, totalScore}
 use Rattle.clusters.specs.Merged.{mergedItems}
 use Rattle.clusters.specs.Plan.{planOf}
 use Rattle.clusters.proofs.HeadsLaws.{ready-readable}
-use Rattle.clusters.proofs.NumberLaws.{numbers-all}
+use Rattle.listed.proofs.NumberLaws.{numbers-all}
 use Rattle.compare.specs.Makes.{Makes}
 use Rattle.compare.specs.Printed.{textMost}
 

@@ -3,13 +3,13 @@
 use mathlib.Core.List.{List, [], _∷_}
 use mathlib.Core.Path.{_≡_, refl}
 use Prim.Native.Nat.{ℕ}
-use Rattle.clusters.specs.Counts.{howMany, ownMarks}
+use Rattle.marks.specs.Counts.{howMany, ownMarks}
 use Rattle.compare.specs.Compared.{comparedText}
 use Rattle.bases.specs.Letter.{among?, letterOf, allLetters?}
 use Rattle.bases.specs.Period.{anyPeriod?}
 use Rattle.bases.specs.Same.{agree?}
 use Rattle.card.specs.Refusal.{firstRefusal}
-use Rattle.clusters.specs.Marks.{totalScore}
+use Rattle.marks.specs.Marks.{totalScore}
 use Rattle.clusters.specs.Merged.{weave, merged}
 use Rattle.clusters.specs.Plan.{rest, plan, recordsFrom}
 use Rattle.donors.specs.Apart.{chain?}
@@ -21,17 +21,17 @@ use Rattle.matching.specs.Best.{score}
 use Rattle.matching.specs.BestOf.{every?, allowed?, bestOf}
 use Rattle.matching.specs.Cut.{join}
 use Rattle.matching.specs.Search.{first?, better, bestOver, search}
-use Rattle.normal.specs.Written.{digitsOf}
-use Rattle.vcf.specs.Allele.{altsWrong?}
-use Rattle.vcf.specs.Bytes.{until}
+use Rattle.written.specs.Written.{digitsOf}
+use Rattle.fields.specs.Allele.{altsWrong?}
+use Rattle.fields.specs.Bytes.{until}
 use Rattle.vcf.specs.Entry.{headerBytes, entriesFrom}
-use Rattle.vcf.specs.Field.{skip, full?}
-use Rattle.vcf.specs.Genotype.{copiesWrong?}
-use Rattle.vcf.specs.Header.{headerWrong?}
+use Rattle.fields.specs.Field.{skip, full?}
+use Rattle.fields.specs.Genotype.{copiesWrong?}
+use Rattle.fields.specs.Header.{headerWrong?}
 use Rattle.vcf.specs.List.{linesOf, judgeLines, judgeText}
-use Rattle.vcf.specs.Pos.{allDigits?, valueFrom, isPos?}
-use Rattle.vcf.specs.Row.{firstRow}
-use Rattle.clusters.specs.Listed.{numbersFrom}
+use Rattle.fields.specs.Pos.{allDigits?, valueFrom, isPos?}
+use Rattle.records.specs.Row.{firstRow}
+use Rattle.listed.specs.Listed.{numbersFrom}
 use Rattle.compare.specs.Printed.{entryLines}
 
 -- GCATATG

@@ -10,13 +10,13 @@ use Prim.Native.Nat.{ℕ, _≤_}
 use native.Mathlib.Omega.{arith}
 use lib.ListN.{length, length-append}
 use Rattle.bases.specs.declared.place.Pos.{Pos}
-use Rattle.normal.proofs.DecimalLaws.{decimal-read}
-use Rattle.vcf.specs.Bytes.{LF, TAB}
-use Rattle.vcf.specs.Pos.{readPos}
+use Rattle.written.proofs.DecimalLaws.{decimal-read}
+use Rattle.fields.specs.Bytes.{LF, TAB}
+use Rattle.fields.specs.Pos.{readPos}
 use Rattle.lines.specs.Lines.{number, fields}
 use Rattle.lines.proofs.FieldLaws.{number-pos, fields-few}
 use Rattle.compare.proofs.ReadLaws.{pos-le}
-use Rattle.clusters.specs.Listed.{listNumber}
+use Rattle.listed.specs.Listed.{listNumber}
 use Rattle.compare.specs.Printed.{entryLine, lineMost}
 
 pub number-read : (f : List ℕ) → 1 ≤ readPos f .0 → number (readPos f .0) ≡ f

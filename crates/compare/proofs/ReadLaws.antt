@@ -21,7 +21,7 @@ use Rattle.donors.specs.Apart.{All}
 use Rattle.donors.specs.Rules.{list1, list2}
 use Rattle.vcf.specs.declared.entry.Entry.{Entry}
 use Rattle.vcf.specs.Entry.{entriesFrom}
-use Rattle.vcf.specs.Pos.{allDigits?, valueFrom, largestPos, isPos?, readPos}
+use Rattle.fields.specs.Pos.{allDigits?, valueFrom, largestPos, isPos?, readPos}
 
 pub pos-le : (f : List ℕ) → readPos f .0 ≤ largestPos
 unfolding isPos?

@@ -15,17 +15,17 @@ use native.Mathlib.Omega.{arith}
 use lib.ListN.{length, getD, take, drop, replicate, length-append, length-drop, length-replicate}
 use lib.Seq.{drop-cons, drop-drop, drop-length, getD-take, length-take-le}
 use Rattle.bases.specs.Put.{put}
-use Rattle.clusters.specs.declared.count.Counts.{Counts}
+use Rattle.marks.specs.declared.count.Counts.{Counts}
 use Rattle.clusters.specs.declared.heads.Heads.{Heads}
 use Rattle.clusters.specs.declared.item.Item.{Item}
 use Rattle.clusters.specs.declared.plan.Cluster.{Cluster}
-use Rattle.clusters.specs.Counts.{countsOf, totals, mostEntries}
+use Rattle.marks.specs.Counts.{countsOf, totals, mostEntries}
 use Rattle.clusters.specs.Heads.{Readable, startHeads, itemsFrom, passed}
 use Rattle.clusters.specs.Merged.{mergedItems}
-use Rattle.clusters.proofs.CountLaws.{counts-marks}
+use Rattle.marks.proofs.CountLaws.{counts-marks}
 use Rattle.clusters.proofs.HeadsLaws.{passed-items}
 use Rattle.lines.proofs.WroteLaws.{Wrote, wrote-then, Left, left-begin, left-then}
-use Rattle.clusters.specs.Listed.{numbersFrom}
+use Rattle.listed.specs.Listed.{numbersFrom}
 use Rattle.compare.specs.Printed.{heading, entryLines, lineMost, totalLine, totalMost, printedText}
 use Rattle.compare.proofs.LinesLaws.{lines-few, lines-split, lines-marks}
 use Rattle.compare.proofs.ReadLaws.{readable-passed}

@@ -3,7 +3,7 @@
 -- Assumes nothing: these are definitions.
 use mathlib.Core.List.{List}
 use Prim.Native.Nat.{ℕ}
-use Rattle.clusters.specs.Marks.{clustersOf, allMarks, totalScore}
+use Rattle.marks.specs.Marks.{clustersOf, allMarks, totalScore}
 use Rattle.clusters.specs.Merged.{mergedItems}
 use Rattle.clusters.specs.Plan.{planOf}
 use Rattle.files.specs.declared.given.Given.{Given}

@@ -5,9 +5,9 @@ use mathlib.Core.Path.{_≡_}
 use Prim.Native.Nat.{ℕ, _≤_}
 use lib.ListN.{length, take}
 use Rattle.clusters.specs.declared.plan.Cluster.{Cluster}
-use Rattle.clusters.specs.Counts.{mostEntries}
+use Rattle.marks.specs.Counts.{mostEntries}
 use Rattle.clusters.specs.Heads.{Readable, startHeads}
-use Rattle.clusters.specs.Listed.{numbersFrom}
+use Rattle.listed.specs.Listed.{numbersFrom}
 use Rattle.clusters.specs.Merged.{mergedItems}
 use Rattle.lines.specs.Lines.{largestNumber}
 use Rattle.compare.specs.Printed.{textMost}

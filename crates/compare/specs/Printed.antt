@@ -7,12 +7,12 @@ use mathlib.Core.List.{List, [], _∷_, _++_}
 use Prim.Native.Nat.{ℕ, _+_, _*_}
 use lib.ListN.{length}
 use Rattle.bases.specs.declared.place.Pos.{Pos}
-use Rattle.clusters.specs.declared.count.Count.{Count}
+use Rattle.marks.specs.declared.count.Count.{Count}
 use Rattle.clusters.specs.declared.item.Item.{Item}
 use Rattle.clusters.specs.declared.plan.Cluster.{Cluster}
-use Rattle.clusters.specs.Counts.{mostEntries, countsOf, totals}
-use Rattle.clusters.specs.Listed.{listNumber, numbersFrom}
-use Rattle.vcf.specs.Bytes.{LF, TAB}
+use Rattle.marks.specs.Counts.{mostEntries, countsOf, totals}
+use Rattle.listed.specs.Listed.{listNumber, numbersFrom}
+use Rattle.fields.specs.Bytes.{LF, TAB}
 use Rattle.lines.specs.Lines.{field, fieldMost, fields, fieldsMost}
 
 -- list POS cluster mark, TAB-separated, and the LF

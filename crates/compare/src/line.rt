@@ -4,18 +4,18 @@ ghost use mathlib.Core.Path.{_≡_};
 ghost use Prim.Native.Nat.{_+_, _≤_};
 ghost use lib.ListN.{length};
 ghost use Rattle.bases.specs.Put.{put};
-ghost use Rattle.clusters.specs.Counts.{Few};
+ghost use Rattle.marks.specs.Counts.{Few};
 ghost use Rattle.lines.specs.Lines.{largestNumber};
-ghost use Rattle.clusters.specs.Listed.{listNumber};
+ghost use Rattle.listed.specs.Listed.{listNumber};
 ghost use Rattle.compare.specs.Printed.{heading, entryLine, lineMost, totalLine, totalMost};
 use bases::place::Pos;
 use bases::put::put_byte;
 use bases::put::put_bytes;
-use clusters::count::Count;
+use fields::bytes::LF;
+use fields::bytes::TAB;
 use lines::field::put_field;
 use lines::field::put_fields;
-use vcf::bytes::LF;
-use vcf::bytes::TAB;
+use marks::count::Count;
 
 // Writes the heading at the start of the room.
 pub fn put_heading(out: &mut [u8]) -> usize

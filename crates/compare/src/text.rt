@@ -11,13 +11,13 @@ ghost use Rattle.compare.specs.Printed.{entryLines, lineMost, printedTex
 use crate::line::put_entry;
 use crate::line::put_heading;
 use crate::line::put_total;
-use clusters::count::count_all;
 use clusters::heads::Heads;
 use clusters::heads::after;
 use clusters::heads::next_item;
 use clusters::heads::start_heads;
 use clusters::plan::Cluster;
-use vcf::record::MOST_RECORDS;
+use marks::count::count_all;
+use records::record::MOST_RECORDS;
 
 // The most entries that two accepted lists have, and so the most clusters.
 pub const MOST_ENTRIES: usize = 2 * MOST_RECORDS;

@@ -25,12 +25,12 @@ use Rattle.card.proofs.CountLaws.{count-given, count-marked}
 use Rattle.card.proofs.ListsLaws.{lists-numbered, lists-read}
 use Rattle.card.proofs.RefusalLaws.{first-none, none-holds}
 use Rattle.clusters.specs.declared.plan.Cluster.{Cluster}
-use Rattle.clusters.specs.declared.count.Counts.{Counts}
-use Rattle.clusters.specs.Counts.{countsOf, mostEntries, Few}
+use Rattle.marks.specs.declared.count.Counts.{Counts}
+use Rattle.marks.specs.Counts.{countsOf, mostEntries, Few}
 use Rattle.clusters.specs.Heads.{Readable, startHeads}
-use Rattle.clusters.specs.Marks.{clustersOf, allMarks}
+use Rattle.marks.specs.Marks.{clustersOf, allMarks}
 use Rattle.clusters.specs.Merged.{mergedItems}
-use Rattle.clusters.proofs.CountLaws.{counts-few, counts-marks}
+use Rattle.marks.proofs.CountLaws.{counts-few, counts-marks}
 use Rattle.clusters.proofs.HeadsLaws.{ready-readable}
 use Rattle.files.specs.File.{basesOfFile}
 use Rattle.lines.specs.Lines.{largestNumber, refusedText}

@@ -3,9 +3,9 @@
 -- Assumes nothing: these are definitions.
 use mathlib.Core.List.{List}
 use Prim.Native.Nat.{ℕ, _*_}
-use Rattle.clusters.specs.declared.count.Counts.{Counts}
-use Rattle.clusters.specs.Counts.{countsOf}
-use Rattle.clusters.specs.Marks.{clustersOf, allMarks}
+use Rattle.marks.specs.declared.count.Counts.{Counts}
+use Rattle.marks.specs.Counts.{countsOf}
+use Rattle.marks.specs.Marks.{clustersOf, allMarks}
 use Rattle.clusters.specs.Merged.{mergedItems}
 use Rattle.files.specs.declared.given.Given.{Given}
 use Rattle.files.specs.File.{basesOfFile}

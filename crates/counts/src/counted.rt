@@ -4,19 +4,19 @@ ghost use mathlib.Core.Path.{_≡_};
 ghost use Prim.Native.Nat.{_≤_};
 ghost use lib.ListN.{length};
 ghost use Rattle.bases.specs.Put.{put};
-ghost use Rattle.clusters.specs.Counts.{Few};
+ghost use Rattle.marks.specs.Counts.{Few};
 ghost use Rattle.files.specs.Given.{Laid};
 ghost use Rattle.counts.specs.Counted.{countsLine, countedText, countedIn, countedMost};
 use card::lists::LEAST;
-use clusters::count::Counts;
-use clusters::count::count_lists;
+use fields::bytes::LF;
+use fields::bytes::TAB;
 use files::given::Given;
 use lines::field::FIELDS_MOST;
 use lines::field::put_fields;
 use lines::refused::refused_text;
+use marks::count::Counts;
+use marks::count::count_lists;
 use told::marked::mark_files;
-use vcf::bytes::LF;
-use vcf::bytes::TAB;
 
 // The most bytes that are printed.
 pub const COUNTED_MOST: usize = 2 * FIELDS_MOST;

@@ -8,7 +8,7 @@ use borrow.Author.Tests.{ltb-true}
 use lib.Dec.{eqb, ltb}
 use lib.ListN.{length, getD}
 use Rattle.bases.proofs.TestLaws.{of-true, is-true, both}
-use Rattle.vcf.specs.Bytes.{LF}
+use Rattle.fields.specs.Bytes.{LF}
 use Rattle.files.specs.File.{endsInLf?}
 
 pub ends-some : (file : List ℕ) → endsInLf? file ≡ true → 1 ≤ length file

@@ -11,14 +11,14 @@ use lib.ListN.{length, drop}
 use Rattle.bases.proofs.TestLaws.{of-true, of-false}
 use Rattle.bases.specs.Pick.{pick}
 use Rattle.bases.specs.Same.{same?}
-use Rattle.vcf.proofs.FieldLaws.{until-within, field-length, skip-zero, full-stop}
+use Rattle.fields.proofs.FieldLaws.{until-within, field-length, skip-zero, full-stop}
 use Rattle.vcf.specs.declared.list.Stage.{Stage}
-use Rattle.vcf.specs.Bytes.{TAB, until}
-use Rattle.vcf.specs.Field.{fieldAt, fieldFrom, field, fieldCount, tenFields?}
-use Rattle.vcf.specs.Header.{headerWrong?}
+use Rattle.fields.specs.Bytes.{TAB, until}
+use Rattle.fields.specs.Field.{fieldAt, fieldFrom, field, fieldCount, tenFields?}
+use Rattle.fields.specs.Header.{headerWrong?}
 use Rattle.vcf.specs.List.{linesOf, above, nextStage, lineRows, judgeLines, judgeText}
-use Rattle.vcf.specs.Record.{longestLine, tooLong?, chromWrong?, recordRows}
-use Rattle.vcf.specs.Row.{Row, row, firstRow}
+use Rattle.records.specs.Record.{longestLine, tooLong?, chromWrong?, recordRows}
+use Rattle.records.specs.Row.{Row, row, firstRow}
 
 other : (a b : List ℕ) → (length a ≡ length b → ⊥) → not (same? a b) ≡ true
 other a b h = rw (ne-eqb (length a) (length b) h)

@@ -4,7 +4,7 @@ use mathlib.Core.List.{List}
 use Prim.Native.Nat.{ℕ, _+_, _-_, _*_, _≤_}
 use lib.ListN.{take, drop}
 use Rattle.vcf.specs.List.{longestText}
-use Rattle.vcf.specs.Record.{longestLine}
+use Rattle.records.specs.Record.{longestLine}
 use Rattle.files.specs.declared.given.Given.{Given}
 
 -- The room for each: a CHROM is no longer than a line; a file has one byte more than the longest text.

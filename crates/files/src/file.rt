@@ -4,8 +4,8 @@ ghost use Prim.Native.Nat.{_≤_};
 ghost use lib.ListN.{length};
 ghost use Rattle.io.specs.Counts.{Counts};
 ghost use Rattle.files.specs.File.{endsInLf?};
+use fields::bytes::LF;
 use libc::STDOUT_FILENO;
-use vcf::bytes::LF;
 use vcf::list::LONGEST_TEXT;
 
 // One byte more than the longest text that is accepted, and than the longest reference with its LF: a longer file is not cut to one that is

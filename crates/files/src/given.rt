@@ -8,7 +8,7 @@ ghost use Rattle.files.specs.Given.{nameRoom, fileRoom, listRoom, listsR
 use crate::file::FILE_ROOM;
 use crate::file::read_file;
 use bases::put::put_bytes;
-use vcf::record::LONGEST_LINE;
+use records::record::LONGEST_LINE;
 
 // Where each part ends in the room. The name begins where the room does, each other part where the one before it ends.
 pub struct Given {

@@ -13,9 +13,9 @@ use borrow.Author.Tests.{lt-ltb, le-ltb, ltb-true, ltb-false}
 use lib.Dec.{ltb}
 use lib.ListN.{length, length-append}
 use Rattle.bases.specs.Pick.{pick}
-use Rattle.normal.specs.Written.{digitsOf, decimal}
-use Rattle.vcf.specs.Bytes.{TAB}
-use Rattle.vcf.specs.Pos.{largestPos}
+use Rattle.written.specs.Written.{digitsOf, decimal}
+use Rattle.fields.specs.Bytes.{TAB}
+use Rattle.fields.specs.Pos.{largestPos}
 use Rattle.lines.specs.Lines.{mostDigits, number, field, fieldMost, fields, fieldsMost}
 
 digits-more : (k n : ℕ) → n < 10 → digitsOf (suc k) n ≡ (48 + n) ∷ []

@@ -4,8 +4,8 @@
 use mathlib.Core.List.{List, [], _∷_, _++_}
 use Prim.Native.Nat.{ℕ, _+_, _*_}
 use lib.ListN.{length}
-use Rattle.normal.specs.Written.{digitsOf}
-use Rattle.vcf.specs.Bytes.{LF, TAB}
+use Rattle.written.specs.Written.{digitsOf}
+use Rattle.fields.specs.Bytes.{LF, TAB}
 
 -- A number in decimal, of at most seven digits; and the largest that is printed so.
 abbrev pub mostDigits : ℕ

@@ -6,8 +6,8 @@ ghost use lib.ListN.{length};
 ghost use Rattle.bases.specs.Put.{put};
 ghost use Rattle.lines.specs.Lines.{number, mostDigits, largestNumber, field, fieldMost, fields, fieldsMost};
 use bases::put::put_byte;
-use normal::put::put_decimal;
-use vcf::bytes::TAB;
+use fields::bytes::TAB;
+use written::put::put_decimal;
 
 // The most bytes that three numbers have, with the byte behind each.
 pub const FIELDS_MOST: usize = 24;

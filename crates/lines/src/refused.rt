@@ -6,7 +6,7 @@ ghost use Rattle.bases.specs.Put.{put};
 ghost use Rattle.lines.specs.Lines.{largestNumber, refusedText, refusedMost};
 use crate::field::put_fields;
 use bases::put::put_bytes;
-use vcf::bytes::LF;
+use fields::bytes::LF;
 
 // Writes the text for a refusal at the start of the room.
 pub fn refused_text(number: usize, list: usize, line: usize, out: &mut [u8]) -> usize

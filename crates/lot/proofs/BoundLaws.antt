@@ -17,7 +17,7 @@ use lib.Dec.{eqb, ltb}
 use lib.ListN.{length, take, length-take}
 use Rattle.bases.proofs.TestLaws.{neither}
 use Rattle.bases.specs.Pick.{pick}
-use Rattle.vcf.specs.Record.{mostRecords}
+use Rattle.records.specs.Record.{mostRecords}
 use Rattle.lot.specs.declared.answer.Lot.{Lot}
 use Rattle.lot.specs.declared.run.Run.{Run}
 use Rattle.lot.specs.declared.share.Share.{Share}

@@ -14,9 +14,9 @@ use lib.ListN.{length, take, drop, take-append-drop}
 use lib.Seq.{length-take-le}
 use Rattle.card.proofs.CountLaws.{count-given, count-room}
 use Rattle.clusters.proofs.CardClusters.{map-length}
-use Rattle.clusters.proofs.CountLaws.{own-join, counts-marks}
+use Rattle.marks.proofs.CountLaws.{own-join, counts-marks}
 use Rattle.clusters.specs.declared.item.Item.{Item}
-use Rattle.clusters.specs.Counts.{matched?, unmatched?, undecided?, howMany, ownMarks, countsOf}
+use Rattle.marks.specs.Counts.{matched?, unmatched?, undecided?, howMany, ownMarks, countsOf}
 use Rattle.donors.specs.Rules.{list1, list2}
 use Rattle.lot.specs.declared.run.Run.{Run}
 use Rattle.lot.specs.Control.{Control, countedFor, AllCounted, runsOf, entriesIn, marksIn, joinedEntries, joinedMarks, runWith}

@@ -17,7 +17,7 @@ use borrow.Author.Tests.{eqb-true, eq-eqb, ltb-true, lt-ltb}
 use lib.Dec.{eqb, ltb}
 use lib.ListN.{length, getD}
 use Rattle.bases.specs.Pick.{pick}
-use Rattle.vcf.specs.Record.{mostRecords}
+use Rattle.records.specs.Record.{mostRecords}
 use Rattle.lot.specs.declared.answer.Lot.{Lot}
 use Rattle.lot.specs.declared.run.Run.{Run}
 use Rattle.lot.specs.Lot.{refusedLot, givenLot, answerOf, lotRow, lotOf}

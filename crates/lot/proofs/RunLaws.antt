@@ -14,7 +14,7 @@ use borrow.Author.Tests.{ltb-false, le-ltb}
 use lib.ListN.{length, getD, take}
 use lib.Seq.{take-suc}
 use Rattle.bases.proofs.TestLaws.{neither}
-use Rattle.vcf.specs.Record.{mostRecords}
+use Rattle.records.specs.Record.{mostRecords}
 use Rattle.lot.specs.declared.run.Run.{Run}
 use Rattle.lot.specs.Run.{truthOf, calledOf, above?, large?, anyLarge?, noRun, bothRuns, totalOf}
 

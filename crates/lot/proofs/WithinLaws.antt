@@ -20,12 +20,12 @@ use Rattle.card.specs.Answer.{refusedAnswer}
 use Rattle.card.specs.Count.{countedOf, noCounts, countRefusal, counted}
 use Rattle.card.specs.Refusal.{leastRoom}
 use Rattle.card.proofs.ListsLaws.{lists-read}
-use Rattle.clusters.specs.declared.count.Counts.{Counts}
+use Rattle.marks.specs.declared.count.Counts.{Counts}
 use Rattle.clusters.specs.declared.item.Item.{Item}
-use Rattle.clusters.specs.Counts.{one, matched?, unmatched?, undecided?, howMany, countAll, sumOf, ownMarks, countsOf}
+use Rattle.marks.specs.Counts.{one, matched?, unmatched?, undecided?, howMany, countAll, sumOf, ownMarks, countsOf}
 use Rattle.clusters.specs.Merged.{itemOf, mergedEntries, mergedItems}
 use Rattle.clusters.proofs.CardClusters.{map-length, merged-first, merged-second}
-use Rattle.clusters.proofs.CountLaws.{one-le}
+use Rattle.marks.proofs.CountLaws.{one-le}
 use Rattle.clusters.proofs.MergedLaws.{keep}
 use Rattle.donors.specs.Rules.{list1, list2, putIf}
 use Rattle.vcf.specs.declared.entry.Entry.{Entry}

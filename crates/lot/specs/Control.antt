@@ -7,7 +7,7 @@ use lib.ListN.{length, take}
 use Rattle.card.specs.declared.count.Counted.{Counted}
 use Rattle.card.specs.Answer.{answer}
 use Rattle.card.specs.Count.{countedOf, counted}
-use Rattle.clusters.specs.declared.count.Counts.{Counts}
+use Rattle.marks.specs.declared.count.Counts.{Counts}
 use Rattle.clusters.specs.declared.item.Item.{Item}
 use Rattle.clusters.specs.Merged.{mergedItems}
 use Rattle.lot.specs.declared.run.Run.{Run}

@@ -5,7 +5,7 @@ use mathlib.Core.List.{List, [], _∷_}
 use Prim.Native.Nat.{ℕ, _+_}
 use lib.Dec.{ltb}
 use Rattle.card.specs.declared.count.Counted.{Counted}
-use Rattle.vcf.specs.Record.{mostRecords}
+use Rattle.records.specs.Record.{mostRecords}
 use Rattle.lot.specs.declared.run.Run.{Run}
 
 -- The most runs of a lot.

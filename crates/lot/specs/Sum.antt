@@ -4,7 +4,7 @@ use mathlib.Core.Bool.{true, false}
 use Prim.Native.Nat.{ℕ, _+_, _*_, _≤_, _<_, _^_}
 use lib.Dec.{ltb}
 use Rattle.bases.specs.Pick.{pick}
-use Rattle.vcf.specs.Record.{mostRecords}
+use Rattle.records.specs.Record.{mostRecords}
 use Rattle.lot.specs.declared.run.Run.{Run}
 use Rattle.lot.specs.declared.sum.Sum.{Sum}
 use Rattle.lot.specs.Run.{mostRuns, truthOf, calledOf, large?, noRun, bothRuns}

@@ -2,7 +2,7 @@
 ghost use mathlib.Core.Path.{_≡_};
 ghost use Rattle.lot.specs.Run.{runOf, above?, large?};
 use card::count::Counted;
-use vcf::record::MOST_RECORDS;
+use records::record::MOST_RECORDS;
 
 // List 1 is the truth, list 2 what the run called.
 pub struct Run {

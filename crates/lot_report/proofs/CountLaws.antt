@@ -13,8 +13,8 @@ use borrow.Author.Tests.{eq-eqb, ne-eqb, ltb-false, le-leb, lt-leb}
 use lib.Dec.{eqb, ltb}
 use lib.ListN.{length, getD, drop}
 use Rattle.bases.proofs.TestLaws.{of-true, of-false, is-true, both}
-use Rattle.vcf.proofs.PosLaws.{digits-stop, digits-more, first-byte}
-use Rattle.vcf.specs.Pos.{digit?, allDigits?}
+use Rattle.fields.proofs.PosLaws.{digits-stop, digits-more, first-byte}
+use Rattle.fields.specs.Pos.{digit?, allDigits?}
 use Rattle.lot_report.specs.Count.{count?, largestCount, capped}
 
 pub count-none : (f : List ℕ) → length f ≡ 0 → count? f ≡ false

@@ -7,11 +7,11 @@ use Rattle.bases.specs.Same.{agree?}
 use Rattle.lines.specs.Lines.{refusedText}
 use Rattle.lot.specs.Lot.{lotOf}
 use Rattle.lot.specs.Run.{anyLarge?, totalOf}
-use Rattle.normal.specs.Written.{digitsOf}
-use Rattle.vcf.specs.Bytes.{LF, until}
-use Rattle.vcf.specs.Field.{skip}
+use Rattle.written.specs.Written.{digitsOf}
+use Rattle.fields.specs.Bytes.{LF, until}
+use Rattle.fields.specs.Field.{skip}
 use Rattle.vcf.specs.List.{linesOf}
-use Rattle.vcf.specs.Pos.{allDigits?, valueFrom}
+use Rattle.fields.specs.Pos.{allDigits?, valueFrom}
 use Rattle.lot_report.specs.Report.{runsReport, reportText}
 use Rattle.lot_report.specs.Run.{runsHeading, counts?, badLine}
 use Rattle.lot_report.specs.Table.{heading, shareText, lineText, runsText}

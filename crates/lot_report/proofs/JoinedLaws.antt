@@ -19,14 +19,14 @@ use Rattle.bases.proofs.TestLaws.{of-true}
 use Rattle.bases.specs.Pick.{pick}
 use Rattle.lines.proofs.FieldLaws.{number-pos}
 use Rattle.lines.specs.Lines.{number}
-use Rattle.normal.proofs.DecimalLaws.{decimal-pos}
-use Rattle.normal.proofs.FieldThenLaws.{field-here, field-next}
-use Rattle.normal.proofs.WithoutLaws.{Without, without-append, without-cons, without-digits, until-found}
-use Rattle.normal.specs.Lines.{All}
-use Rattle.normal.specs.Written.{digitsOf, decimal, fieldThen}
-use Rattle.vcf.specs.Bytes.{TAB}
-use Rattle.vcf.specs.Field.{field, fieldEnd, fieldFrom, skip}
-use Rattle.vcf.specs.Pos.{allDigits?, valueFrom, largestPos, isPos?, readPos}
+use Rattle.written.proofs.DecimalLaws.{decimal-pos}
+use Rattle.written.proofs.FieldThenLaws.{field-here, field-next}
+use Rattle.written.proofs.WithoutLaws.{Without, without-append, without-cons, without-digits, until-found}
+use Rattle.written.specs.Lines.{All}
+use Rattle.written.specs.Written.{digitsOf, decimal, fieldThen}
+use Rattle.fields.specs.Bytes.{TAB}
+use Rattle.fields.specs.Field.{field, fieldEnd, fieldFrom, skip}
+use Rattle.fields.specs.Pos.{allDigits?, valueFrom, largestPos, isPos?, readPos}
 use Rattle.lot_report.specs.Count.{count?, capped, countOf}
 use Rattle.lot_report.specs.Run.{counts?}
 use Rattle.lot_report.proofs.CountLaws.{count-digits, capped-small}

@@ -18,16 +18,16 @@ use Rattle.lines.specs.Lines.{number}
 use Rattle.lot.proofs.RunLaws.{small-truth, small-called}
 use Rattle.lot.specs.declared.run.Run.{Run}
 use Rattle.lot.specs.Run.{large?}
-use Rattle.normal.proofs.TextLaws.{lines-text, text-last}
-use Rattle.normal.proofs.WithoutLaws.{Without, without-digits}
-use Rattle.normal.specs.Lines.{All}
-use Rattle.normal.specs.Written.{textOf}
+use Rattle.written.proofs.TextLaws.{lines-text, text-last}
+use Rattle.written.proofs.WithoutLaws.{Without, without-digits}
+use Rattle.written.specs.Lines.{All}
+use Rattle.written.specs.Written.{textOf}
 use Rattle.vcf.proofs.ListLaws.{lines-at}
-use Rattle.vcf.specs.Bytes.{LF, TAB, until}
+use Rattle.fields.specs.Bytes.{LF, TAB, until}
 use Rattle.vcf.specs.Entry.{lineAt}
-use Rattle.vcf.specs.Field.{field}
+use Rattle.fields.specs.Field.{field}
 use Rattle.vcf.specs.List.{linesOf, longestText}
-use Rattle.vcf.specs.Pos.{largestPos}
+use Rattle.fields.specs.Pos.{largestPos}
 use Rattle.lot_report.specs.Count.{countOf}
 use Rattle.lot_report.specs.Made.{Named, madeLines, madeText, Sound, AllSound, runsNamed, namedText, namedReport}
 use Rattle.lot_report.specs.Report.{runsReport, reportText}

@@ -17,7 +17,7 @@ use Rattle.bases.proofs.TestLaws.{of-true, is-true, both}
 use Rattle.files.specs.File.{endsInLf?}
 use Rattle.lines.specs.Lines.{largestNumber, refusedText}
 use Rattle.lot.specs.Lot.{lotOf}
-use Rattle.vcf.specs.Bytes.{LF}
+use Rattle.fields.specs.Bytes.{LF}
 use Rattle.vcf.specs.List.{linesOf, longestText, textWrong?}
 use Rattle.lot_report.specs.Report.{runsReport, reportText}
 use Rattle.lot_report.specs.Run.{headed?, runLines, badLine, runsOn}

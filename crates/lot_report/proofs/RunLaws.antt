@@ -19,13 +19,13 @@ use lib.Dec.{T, eqb, ltb}
 use lib.ListN.{length, drop}
 use Rattle.bases.proofs.TestLaws.{of-true, of-false, is-true, both}
 use Rattle.bases.specs.Pick.{pick}
-use Rattle.vcf.proofs.FieldLaws.{until-within, field-length, skip-more}
+use Rattle.fields.proofs.FieldLaws.{until-within, field-length, skip-more}
 use Rattle.vcf.proofs.ListLaws.{lines-at}
-use Rattle.vcf.specs.Bytes.{LF, TAB}
+use Rattle.fields.specs.Bytes.{LF, TAB}
 use Rattle.vcf.specs.Entry.{lineAt, nextLine}
-use Rattle.vcf.specs.Field.{fieldEnd, fieldFrom, field, fieldAt, skip}
+use Rattle.fields.specs.Field.{fieldEnd, fieldFrom, field, fieldAt, skip}
 use Rattle.vcf.specs.List.{onto, linesOf}
-use Rattle.vcf.specs.Pos.{allDigits?}
+use Rattle.fields.specs.Pos.{allDigits?}
 use Rattle.lot_report.specs.Count.{count?}
 use Rattle.lot_report.specs.Run.{countsOfRun, counts?, run?, badLine, allRuns?}
 use Rattle.lot_report.proofs.CountLaws.{count-none, count-digits}

@@ -15,7 +15,7 @@ use Rattle.lines.proofs.FieldLaws.{field-few, fields-few}
 use Rattle.lines.specs.Lines.{field, fields}
 use Rattle.lot.specs.declared.answer.Lot.{Lot}
 use Rattle.lot.specs.declared.share.Share.{Share}
-use Rattle.vcf.specs.Bytes.{LF, TAB}
+use Rattle.fields.specs.Bytes.{LF, TAB}
 use Rattle.lot_report.specs.Table.{noShare, SLASH, POINT, fourDigits, percent, percentMost, shareText, shareMost, lineText, lineMost}
 
 pub share-none : (s : Share) (end : ℕ) → s .bottom ≡ 0 → shareText s end ≡ noShare ++ (end ∷ [])

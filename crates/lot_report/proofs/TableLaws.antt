@@ -19,11 +19,11 @@ use Rattle.lines.proofs.WroteLaws.{Wrote, Left, left-begin, left-then, left-end
 use Rattle.lot.specs.Lot.{lotOf}
 use Rattle.lot.specs.Run.{large?, anyLarge?}
 use Rattle.vcf.proofs.EntryLaws.{line-length}
-use Rattle.vcf.proofs.FieldLaws.{until-within, field-length}
+use Rattle.fields.proofs.FieldLaws.{until-within, field-length}
 use Rattle.vcf.proofs.ListLaws.{lines-at, lines-past}
-use Rattle.vcf.specs.Bytes.{LF, TAB}
+use Rattle.fields.specs.Bytes.{LF, TAB}
 use Rattle.vcf.specs.Entry.{lineAt, nextLine}
-use Rattle.vcf.specs.Field.{fieldAt}
+use Rattle.fields.specs.Field.{fieldAt}
 use Rattle.vcf.specs.List.{onto, linesOf}
 use Rattle.lot_report.specs.Fine.{Fine, AllFine}
 use Rattle.lot_report.specs.Run.{nameOf, runOn, runsOn}

@@ -7,7 +7,7 @@ use Prim.Native.Nat.{ℕ}
 use lib.Dec.{eqb, leb}
 use lib.ListN.{length, getD}
 use Rattle.bases.specs.Pick.{pick}
-use Rattle.vcf.specs.Pos.{allDigits?, valueFrom}
+use Rattle.fields.specs.Pos.{allDigits?, valueFrom}
 
 -- The field is a count.
 abbrev pub count? : List ℕ → Bool

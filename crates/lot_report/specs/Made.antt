@@ -12,7 +12,7 @@ use Rattle.lines.specs.Lines.{countsFields, refusedText}
 use Rattle.lot.specs.declared.run.Run.{Run}
 use Rattle.lot.specs.Lot.{lotOf}
 use Rattle.lot.specs.Run.{large?}
-use Rattle.vcf.specs.Bytes.{LF, TAB, until}
+use Rattle.fields.specs.Bytes.{LF, TAB, until}
 use Rattle.lot_report.specs.Run.{runsHeading}
 use Rattle.lot_report.specs.Table.{heading, lotName, lineText}
 

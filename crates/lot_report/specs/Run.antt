@@ -11,7 +11,7 @@ use Rattle.bases.specs.Same.{same?}
 use Rattle.lot.specs.declared.run.Run.{Run}
 use Rattle.lot.specs.Run.{mostRuns, noRun}
 use Rattle.vcf.specs.Entry.{lineAt, nextLine}
-use Rattle.vcf.specs.Field.{field, fieldEnd, fieldFrom}
+use Rattle.fields.specs.Field.{field, fieldEnd, fieldFrom}
 use Rattle.vcf.specs.List.{linesOf}
 use Rattle.lot_report.specs.Count.{count?, countOf}
 

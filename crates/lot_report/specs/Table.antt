@@ -13,7 +13,7 @@ use Rattle.lot.specs.declared.answer.Lot.{Lot}
 use Rattle.lot.specs.declared.share.Share.{Share}
 use Rattle.lot.specs.Lot.{lotOf}
 use Rattle.lot.specs.Run.{mostRuns}
-use Rattle.vcf.specs.Bytes.{LF, TAB}
+use Rattle.fields.specs.Bytes.{LF, TAB}
 use Rattle.vcf.specs.List.{longestText}
 use Rattle.lot_report.specs.Run.{nameOf, runOn, runsOn}
 

@@ -1,9 +1,9 @@
 // Counts, read from the fields of a line.
 ghost use mathlib.Core.Path.{_≡_};
 ghost use lib.Dec.{T};
-ghost use Rattle.vcf.specs.Pos.{allDigits?};
+ghost use Rattle.fields.specs.Pos.{allDigits?};
 ghost use Rattle.lot_report.specs.Count.{count?, countOf};
-use vcf::pos::is_digit;
+use fields::pos::is_digit;
 
 // The largest count that is told from larger ones.
 const LARGEST_COUNT: usize = 4_294_967_295;

@@ -3,19 +3,19 @@ ghost use mathlib.Core.Path.{_≡_};
 ghost use Prim.Native.Nat.{_+_, _≤_};
 ghost use lib.Dec.{T};
 ghost use lib.ListN.{length, drop};
-ghost use Rattle.vcf.specs.Field.{field};
+ghost use Rattle.fields.specs.Field.{field};
 ghost use Rattle.vcf.specs.List.{linesOf};
 ghost use Rattle.lot_report.specs.Count.{countOf};
 ghost use Rattle.lot_report.specs.Run.{headed?, countsOfRun, run?, runOn, badLine};
 use crate::count::is_count;
 use crate::count::read_count;
 use bases::bytes::same_bytes;
+use fields::bytes::LF;
+use fields::bytes::TAB;
+use fields::bytes::find;
+use fields::field::field_from;
+use fields::field::skip_fields;
 use lot::run::Run;
-use vcf::bytes::LF;
-use vcf::bytes::TAB;
-use vcf::bytes::find;
-use vcf::field::field_from;
-use vcf::field::skip_fields;
 
 // How many counts a run has.
 const COUNTS_OF_RUN: usize = 6;

@@ -8,10 +8,10 @@ ghost use Rattle.lot.specs.Run.{mostRuns};
 ghost use Rattle.vcf.specs.List.{linesOf};
 ghost use Rattle.lot_report.specs.Run.{allRuns?, noRuns, runsOn};
 use crate::run::run_on;
+use fields::bytes::LF;
+use fields::bytes::find;
 use lot::answer::MOST_RUNS;
 use lot::run::Run;
-use vcf::bytes::LF;
-use vcf::bytes::find;
 
 // How many lines there are from `from` on.
 pub fn count_lines(text: &[u8], from: usize) -> usize

@@ -8,9 +8,9 @@ ghost use Rattle.lot_report.specs.Printable.{PrintableShare};
 ghost use Rattle.lot_report.specs.Table.{fourDigits, percent, percentMost, shareText, shareMost};
 use bases::put::put_byte;
 use bases::put::put_bytes;
+use fields::bytes::TAB;
 use lines::field::put_field;
 use lot::share::Share;
-use vcf::bytes::TAB;
 
 // Writes the last four digits of a number.
 fn put_four(n: usize, out: &mut [u8], at: usize) -> usize

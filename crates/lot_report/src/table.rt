@@ -12,14 +12,14 @@ use crate::run::run_on;
 use crate::share::put_share;
 use bases::put::put_byte;
 use bases::put::put_bytes;
+use fields::bytes::LF;
+use fields::bytes::TAB;
+use fields::bytes::find;
+use fields::field::field_from;
 use lines::field::put_fields;
 use lot::answer::Lot;
 use lot::answer::MOST_RUNS;
 use lot::lot::lot_of_first;
-use vcf::bytes::LF;
-use vcf::bytes::TAB;
-use vcf::bytes::find;
-use vcf::field::field_from;
 use vcf::list::LONGEST_TEXT;
 
 // The most bytes of a line without its name.

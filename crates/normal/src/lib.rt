@@ -1,7 +1,3 @@
-// The normal form of an entry, and a list written in normal form. The contracts cite specs/.
+// The normal form of an entry: what is cut off its alleles, and where they then stand. The contracts cite specs/.
 pub mod cut;
 pub mod entry;
-pub mod list;
-pub mod place;
-pub mod put;
-pub mod write;

@@ -21,7 +21,7 @@ use Rattle.card.specs.Refusal.{listChecks}
 use Rattle.card.proofs.NormalLaws.{normal-refused, normal-given}
 use Rattle.files.specs.File.{endsInLf?, basesOfFile}
 use Rattle.lines.specs.Lines.{largestNumber, refusedText}
-use Rattle.normal.specs.Written.{writtenText}
+use Rattle.written.specs.Written.{writtenText}
 use Rattle.told.proofs.PrintableLaws.{list-printable}
 use Rattle.told.proofs.ToldLaws.{file-open, file-past, told-text, Numbers, numbers-printable, numbers-refused}
 use Rattle.normalise.specs.Normalised.{listRefusal, normalisedText}

@@ -9,7 +9,7 @@ use Rattle.card.specs.Refusal.{firstRefusal, listChecks}
 use Rattle.files.specs.declared.given.Given.{Given}
 use Rattle.files.specs.File.{basesOfFile}
 use Rattle.files.specs.Given.{nameIn, fileIn, firstIn}
-use Rattle.normal.specs.Written.{writtenText}
+use Rattle.written.specs.Written.{writtenText}
 use Rattle.told.specs.Told.{fileCheck, toldText}
 
 -- Why the files are refused: 1, also where the reference file does not end in LF; the list's rows. The room is never too small.

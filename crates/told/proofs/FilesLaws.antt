@@ -28,7 +28,7 @@ use Rattle.card.proofs.ClusterMarks.{marks-all}
 use Rattle.card.proofs.ListsLaws.{lists-read}
 use Rattle.card.proofs.ReadyLaws.{Answerable, lists-answerable}
 use Rattle.clusters.specs.declared.plan.Cluster.{Cluster}
-use Rattle.clusters.specs.Marks.{clustersOf, allMarks, totalScore}
+use Rattle.marks.specs.Marks.{clustersOf, allMarks, totalScore}
 use Rattle.clusters.specs.Merged.{mergedItems}
 use Rattle.clusters.specs.Plan.{planOf}
 use Rattle.files.specs.File.{endsInLf?, basesOfFile}

@@ -15,10 +15,10 @@ use Rattle.card.specs.Refusal.{Check, refusal, firstRefusal, listCheck, listChe
 use Rattle.donors.specs.Apart.{All}
 use Rattle.vcf.specs.declared.list.Fault.{Fault}
 use Rattle.vcf.specs.declared.list.Stage.{Stage}
-use Rattle.vcf.specs.Header.{headerWrong?}
+use Rattle.fields.specs.Header.{headerWrong?}
 use Rattle.vcf.specs.List.{linesOf, textWrong?, above, nextStage, lineRows, fault, judgeLines, judgeText}
-use Rattle.vcf.specs.Record.{tooLong?, recordRows}
-use Rattle.vcf.specs.Row.{Row, row, firstRow}
+use Rattle.records.specs.Record.{tooLong?, recordRows}
+use Rattle.records.specs.Row.{Row, row, firstRow}
 use Rattle.vcf.proofs.JudgeLaws.{judge-line-fits}
 use Rattle.lines.specs.Lines.{largestNumber}
 use Rattle.told.specs.Told.{fileCheck}

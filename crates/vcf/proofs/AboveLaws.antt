@@ -15,7 +15,7 @@ use lib.Seq.{getD-drop}
 use Rattle.bases.specs.Pick.{pick}
 use Rattle.vcf.specs.declared.entry.Entry.{Entry}
 use Rattle.vcf.specs.Entry.{lineAt, nextLine, entryOf, headerBytes, recordsAt, headerLines, linesAbove, entriesOf, skipLines, recordAt}
-use Rattle.vcf.specs.Header.{headerLine?}
+use Rattle.fields.specs.Header.{headerLine?}
 use Rattle.vcf.specs.List.{linesOf}
 use Rattle.vcf.proofs.EntryLaws.{header-stop, header-more, header-past, above-stop, above-more, above-past, skip-lines-zero, skip-lines-past, skip-lines-more, entry-number, entries-iff}
 use Rattle.vcf.proofs.JudgeLaws.{lines-few}

@@ -21,16 +21,16 @@ use Rattle.bases.specs.declared.place.Pos.{Pos}
 use Rattle.bases.proofs.TestLaws.{of-false, both}
 use Rattle.bases.specs.Pick.{pick}
 use Rattle.vcf.specs.Entry.{lineAt, nextLine, headerBytes, recordsAt, entriesFrom, entriesOf, readable?, allReadable?, readableFrom?, skipLines, recordAt}
-use Rattle.vcf.specs.Field.{tenFields?}
-use Rattle.vcf.specs.Header.{headerLine?}
+use Rattle.fields.specs.Field.{tenFields?}
+use Rattle.fields.specs.Header.{headerLine?}
 use Rattle.vcf.specs.List.{linesOf, textWrong?, above, belowAt, nextStage, lineRows, fault, judgeLines, judgeText}
-use Rattle.vcf.specs.Pos.{noPos}
-use Rattle.vcf.specs.Record.{mostRecords, posOn, genotypeWrong?, recordRows}
-use Rattle.vcf.specs.Row.{Row, firstRow}
+use Rattle.fields.specs.Pos.{noPos}
+use Rattle.records.specs.Record.{mostRecords, posOn, genotypeWrong?, recordRows}
+use Rattle.records.specs.Row.{Row, firstRow}
 use Rattle.vcf.proofs.EntryLaws.{header-stop, header-more, skip-lines-zero, skip-lines-past, skip-lines-more, skip-lines-next}
-use Rattle.vcf.proofs.ListLaws.{lines-at, lines-past, next-header, next-column, judge-stop, judge-more, judge-end-above}
-use Rattle.vcf.proofs.RecordLineLaws.{RecordLine, record-line}
-use Rattle.vcf.proofs.RowLaws.{NoneHolds, none-holds, line-rows-numbered}
+use Rattle.vcf.proofs.ListLaws.{lines-at, lines-past, next-header, next-column, judge-stop, judge-more, judge-end-above, line-rows-numbered}
+use Rattle.records.proofs.RecordLineLaws.{RecordLine, record-line}
+use Rattle.records.proofs.RowLaws.{NoneHolds, none-holds}
 
 entries-length : (a : ℕ) (ls : List (List ℕ)) → length (entriesFrom a ls) ≡ length ls
 unfolding entriesFrom

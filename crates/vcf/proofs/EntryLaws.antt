@@ -11,8 +11,9 @@
 --     entry-there, entry-none          the entry some lines on
 --     entry-number, entries-iff        entry i of a text, and whether there is one
 --     entry-is                         what is read off a line, field by field, is its entry
+--     readable-ten, readable-right     what a line has off which an entry can be read
 -- Assumes nothing.
-use mathlib.Core.Bool.{true, false}
+use mathlib.Core.Bool.{true, false, not}
 use mathlib.Core.List.{List, [], _∷_}
 use mathlib.Core.Logic.{_↔_}
 use mathlib.Core.Path.{_≡_, refl, ap, _∙_}
@@ -21,23 +22,23 @@ use native.Mathlib.Decide.{decLt}
 use native.Mathlib.Nat.{zero-add}
 use native.Mathlib.Omega.{arith}
 use borrow.Author.Tests.{le-leb, lt-leb}
-use lib.Dec.{T}
+use lib.Dec.{T, T-not}
 use lib.ListN.{length, getD, drop}
 use lib.Seq.{length-take-le}
 use Rattle.bases.specs.declared.place.Pos.{Pos}
 use Rattle.vcf.specs.declared.entry.Entry.{Entry}
 use Rattle.vcf.specs.declared.entry.Part.{Part}
-use Rattle.vcf.specs.Allele.{altCount}
-use Rattle.vcf.specs.Bytes.{LF, COMMA, until}
+use Rattle.fields.specs.Allele.{altCount}
+use Rattle.fields.specs.Bytes.{LF, COMMA, until}
 use Rattle.vcf.specs.Entry.{part, lineAt, nextLine, entryOf, headerBytes, recordsAt, headerLines, entriesFrom, entriesOf, readable?, allReadable?, readableFrom?, skipLines, recordAt}
-use Rattle.vcf.specs.Field.{fieldAt, fieldFrom}
-use Rattle.vcf.specs.Genotype.{copy0, copy1}
-use Rattle.vcf.specs.Header.{headerLine?}
-use Rattle.vcf.specs.Record.{posOn, genotypeOn}
+use Rattle.fields.specs.Field.{fieldAt, fieldFrom, tenFields?}
+use Rattle.fields.specs.Genotype.{copy0, copy1}
+use Rattle.fields.specs.Header.{headerLine?}
+use Rattle.records.specs.Record.{posOn, genotypeOn, genotypeWrong?}
 use Rattle.vcf.specs.List.{linesOf}
-use Rattle.bases.proofs.TestLaws.{both}
-use Rattle.vcf.proofs.BytesLaws.{until-le}
-use Rattle.vcf.proofs.FieldLaws.{until-within}
+use Rattle.bases.proofs.TestLaws.{both, is-false}
+use Rattle.fields.proofs.BytesLaws.{until-le}
+use Rattle.fields.proofs.FieldLaws.{until-within}
 use Rattle.vcf.proofs.ListLaws.{lines-at, lines-past}
 
 module _ (t : List ℕ) where
@@ -169,3 +170,10 @@ pub entry-is : (l : List ℕ) (a : ℕ) {p : Pos} {r k end n : ℕ} {bases alt g
       copy1 = copy1 g;
     } (entryOf l a)
 entry-is l a {alt = alt} e1 e2 e3 e4 e5 e6 e7 e8 e9 = let e = e6 ∙ zero-add (until COMMA alt) in cc
+
+-- a line off which an entry can be read has ten fields and a genotype
+pub readable-ten : (l : List ℕ) → T (readable? l) → T (tenFields? l)
+readable-ten l t = both (tenFields? l) (not (genotypeWrong? l)) .0 t .0
+
+pub readable-right : (l : List ℕ) → T (readable? l) → genotypeWrong? l ≡ false
+readable-right l t = is-false (genotypeWrong? l) (T-not (genotypeWrong? l) (both (tenFields? l) (not (genotypeWrong? l)) .0 t .1))

@@ -20,9 +20,9 @@ use Rattle.bases.proofs.TestLaws.{of-true, of-false, is-true, neither}
 use Rattle.bases.specs.Pick.{pick}
 use Rattle.vcf.specs.declared.list.Fault.{Fault}
 use Rattle.vcf.specs.declared.list.Stage.{Stage}
-use Rattle.vcf.specs.Bytes.{LF}
+use Rattle.fields.specs.Bytes.{LF}
 use Rattle.vcf.specs.List.{onto, linesOf, longestText, textWrong?, above, nextStage, lineRows, fault, judgeLines, judgeText}
-use Rattle.vcf.specs.Row.{firstRow}
+use Rattle.records.specs.Row.{firstRow}
 use Rattle.vcf.proofs.StageLaws.{stageAt}
 use Rattle.vcf.proofs.ToldLaws.{ClearTo, OnLine, AtEnd, Told, on-line, at-end, nowhere, on-line-not-zero, told, told-only}
 

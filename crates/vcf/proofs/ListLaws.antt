@@ -6,12 +6,13 @@
 --     judge-stop, judge-more                the first fault of lines: on the first of them, or behind it
 --     judge-end-above, judge-end-below      the first fault of no line
 --     text-wrong, text-right                the first fault of a text, by row 3
+--     line-rows-numbered                    no row that is tried on a line is numbered 0
 -- Assumes nothing.
 use mathlib.Core.Bool.{Bool, true, false}
 use mathlib.Core.List.{List, [], _∷_}
 use mathlib.Core.Path.{_≡_, refl}
 use Prim.Native.Nat.{ℕ, suc, _+_, _≤_, _<_}
-use native.Mathlib.Nat.{not-suc-le-zero}
+use native.Mathlib.Nat.{not-suc-le-zero, suc-ne-zero}
 use native.Mathlib.Omega.{arith}
 use borrow.Author.Tests.{eq-eqb, ne-eqb}
 use lib.Dec.{eqb}
@@ -19,12 +20,13 @@ use lib.ListN.{length, take, drop, length-drop, drop-of-length-le}
 use lib.Seq.{drop-drop}
 use Rattle.bases.specs.Pick.{pick}
 use Rattle.vcf.specs.declared.list.Stage.{Stage}
-use Rattle.vcf.specs.Bytes.{LF, until}
-use Rattle.vcf.specs.Header.{headerLine?, headerWrong?}
+use Rattle.fields.specs.Bytes.{LF, until}
+use Rattle.fields.specs.Header.{headerLine?, headerWrong?}
 use Rattle.vcf.specs.List.{onto, linesOf, textWrong?, above, belowAt, nextStage, lineRows, fault, judgeLines, judgeText}
-use Rattle.vcf.specs.Pos.{noPos}
-use Rattle.vcf.specs.Record.{tooLong?, posOn, recordRows}
-use Rattle.vcf.specs.Row.{row, firstRow}
+use Rattle.fields.specs.Pos.{noPos}
+use Rattle.records.specs.Record.{tooLong?, posOn, recordRows}
+use Rattle.records.specs.Row.{row, firstRow}
+use Rattle.records.proofs.RowLaws.{Numbered, record-rows-numbered}
 
 pub lines-cons : (t : List ℕ) → 0 < length t → linesOf t ≡ take (until LF t) t ∷ linesOf (drop (until LF t + 1) t)
 unfolding linesOf until
@@ -99,3 +101,10 @@ module _ (reference name : List ℕ) where
   pub text-right : (t : List ℕ) → textWrong? t ≡ false → judgeText reference name t ≡ judgeLines reference name above 1 (linesOf t)
   unfolding judgeText
   text-right t e = rw e
+
+pub line-rows-numbered : (reference name : List ℕ) (s : Stage) (n : ℕ) (l : List ℕ) → Numbered (lineRows reference name s n l)
+line-rows-numbered reference name s n l = go (s .below)
+  where
+    go : (b : Bool) → Numbered (pick b (recordRows reference name (s .records) (s .last) l) (row 4 (tooLong? l) ∷ row 5 (headerWrong? n l) ∷ []))
+    go true = record-rows-numbered reference name (s .records) (s .last) l
+    go false = (suc-ne-zero 3, (suc-ne-zero 4, tt))

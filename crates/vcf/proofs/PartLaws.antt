@@ -15,13 +15,13 @@ use lib.Dec.{T, ltb→lt, lit<}
 use lib.ListN.{length, take, drop}
 use lib.Seq.{take-length}
 use Rattle.bases.proofs.PartLaws.{tail-part, part-part}
-use Rattle.vcf.specs.Allele.{firstAlt, twoAlts?, secondAlt}
-use Rattle.vcf.specs.Bytes.{LF, TAB, COMMA, until}
+use Rattle.fields.specs.Allele.{firstAlt, twoAlts?, secondAlt}
+use Rattle.fields.specs.Bytes.{LF, TAB, COMMA, until}
 use Rattle.vcf.specs.Entry.{lineAt, bytesOf, entryOf}
-use Rattle.vcf.specs.Field.{fieldAt, field, tenFields?}
-use Rattle.vcf.proofs.BytesLaws.{until-le}
+use Rattle.fields.specs.Field.{fieldAt, field, tenFields?}
+use Rattle.fields.proofs.BytesLaws.{until-le}
 use Rattle.vcf.proofs.EntryLaws.{line-length, line-within}
-use Rattle.vcf.proofs.FieldLaws.{until-within, field-length, field-within}
+use Rattle.fields.proofs.FieldLaws.{until-within, field-length, field-within}
 
 -- The line at a has ten fields.
 module _ (t : List ℕ) (a : ℕ) (inside : a ≤ length t) (ten : T (tenFields? (lineAt t a))) where

@@ -12,13 +12,13 @@ use lib.Dec.{T}
 use lib.ListN.{length, take, drop, length-drop, take-append-drop}
 use lib.Seq.{drop-drop, drop-append-le, take-append-le}
 use Rattle.bases.proofs.TestLaws.{both}
-use Rattle.vcf.specs.Bytes.{LF, TAB, until}
+use Rattle.fields.specs.Bytes.{LF, TAB, until}
 use Rattle.vcf.specs.Entry.{lineAt, readableFrom?}
-use Rattle.vcf.specs.Field.{skip, fieldAt, fieldFrom, field, tenFields?}
-use Rattle.vcf.specs.Record.{genotypeWrong?}
-use Rattle.vcf.proofs.BytesLaws.{until-front}
+use Rattle.fields.specs.Field.{skip, fieldAt, fieldFrom, field, tenFields?}
+use Rattle.records.specs.Record.{genotypeWrong?}
+use Rattle.fields.proofs.BytesLaws.{until-front}
 use Rattle.vcf.proofs.EntryLaws.{line-within, readable-here}
-use Rattle.vcf.proofs.FieldLaws.{field-within}
+use Rattle.fields.proofs.FieldLaws.{field-within}
 
 module _ (t : List ℕ) (a : ℕ) (h : a < length t) (r : T (readableFrom? t a)) where
   abbrev l : List ℕ

@@ -19,10 +19,10 @@ use Rattle.bases.specs.Same.{agree?}
 use Rattle.bases.proofs.SameLaws.{agree-iff}
 use Rattle.bases.proofs.TestLaws.{of-true, of-false, is-true, is-false, both}
 use Rattle.vcf.specs.declared.list.Stage.{Stage}
-use Rattle.vcf.specs.Bytes.{columnNames, hashes, begins?}
-use Rattle.vcf.specs.Header.{headerLine?, tenthEnd, columnLine?}
+use Rattle.fields.specs.Bytes.{columnNames, hashes, begins?}
+use Rattle.fields.specs.Header.{headerLine?, tenthEnd, columnLine?}
 use Rattle.vcf.specs.List.{above, belowAt, nextStage}
-use Rattle.vcf.specs.Pos.{noPos}
+use Rattle.fields.specs.Pos.{noPos}
 
 -- The stage behind the first i of some lines that are met at stage s.
 abbrev pub stageAt : Stage → List (List ℕ) → ℕ → Stage

@@ -21,8 +21,9 @@ use Rattle.bases.specs.Pick.{pick}
 use Rattle.vcf.specs.declared.list.Fault.{Fault}
 use Rattle.vcf.specs.declared.list.Stage.{Stage}
 use Rattle.vcf.specs.List.{nextStage, lineRows, fault, judgeLines}
-use Rattle.vcf.specs.Row.{Row, firstRow}
-use Rattle.vcf.proofs.RowLaws.{NoneHolds, First, first-row-found, first-row-first, first-row-none, none-holds, first-not-zero, line-rows-numbered}
+use Rattle.records.specs.Row.{Row, firstRow}
+use Rattle.vcf.proofs.ListLaws.{line-rows-numbered}
+use Rattle.records.proofs.RowLaws.{NoneHolds, First, first-row-found, first-row-first, first-row-none, none-holds, first-not-zero}
 use Rattle.vcf.proofs.StageLaws.{stageAt}
 
 -- Of lines, the first of which is the n-th of the text and is met at stage s: the rows that are tried on line m of the text.

@@ -9,13 +9,13 @@ use lib.ListN.{length, take, drop}
 use Rattle.bases.specs.Pick.{pick}
 use Rattle.vcf.specs.declared.entry.Part.{Part}
 use Rattle.vcf.specs.declared.entry.Entry.{Entry}
-use Rattle.vcf.specs.Allele.{altCount}
-use Rattle.vcf.specs.Bytes.{LF, COMMA, until}
-use Rattle.vcf.specs.Field.{fieldAt, field, tenFields?}
-use Rattle.vcf.specs.Genotype.{copy0, copy1}
-use Rattle.vcf.specs.Header.{headerLine?}
+use Rattle.fields.specs.Allele.{altCount}
+use Rattle.fields.specs.Bytes.{LF, COMMA, until}
+use Rattle.fields.specs.Field.{fieldAt, field, tenFields?}
+use Rattle.fields.specs.Genotype.{copy0, copy1}
+use Rattle.fields.specs.Header.{headerLine?}
 use Rattle.vcf.specs.List.{linesOf}
-use Rattle.vcf.specs.Record.{posOn, genotypeOn, genotypeWrong?}
+use Rattle.records.specs.Record.{posOn, genotypeOn, genotypeWrong?}
 
 -- The line that begins at a, without its LF.
 abbrev pub lineAt : List ℕ → ℕ → List ℕ

@@ -1,10 +1,2 @@
-pub mod Allele
-pub mod Bytes
 pub mod Entry
-pub mod Field
-pub mod Genotype
-pub mod Header
 pub mod List
-pub mod Pos
-pub mod Record
-pub mod Row

@@ -9,11 +9,11 @@ use Rattle.bases.specs.declared.place.Pos.{Pos}
 use Rattle.bases.specs.Pick.{pick}
 use Rattle.vcf.specs.declared.list.Stage.{Stage}
 use Rattle.vcf.specs.declared.list.Fault.{Fault}
-use Rattle.vcf.specs.Bytes.{LF}
-use Rattle.vcf.specs.Header.{headerLine?, headerWrong?}
-use Rattle.vcf.specs.Pos.{noPos}
-use Rattle.vcf.specs.Record.{tooLong?, posOn, recordRows}
-use Rattle.vcf.specs.Row.{Row, row, firstRow}
+use Rattle.fields.specs.Bytes.{LF}
+use Rattle.fields.specs.Header.{headerLine?, headerWrong?}
+use Rattle.fields.specs.Pos.{noPos}
+use Rattle.records.specs.Record.{tooLong?, posOn, recordRows}
+use Rattle.records.specs.Row.{Row, row, firstRow}
 
 -- A byte in front of the first of some lines.
 abbrev pub onto : ℕ → List (List ℕ) → List (List ℕ)

@@ -3,20 +3,20 @@ ghost use mathlib.Core.Path.{_≡_};
 ghost use Prim.Native.Nat.{_+_, _-_, _≤_, _<_, _^_};
 ghost use lib.Dec.{T};
 ghost use lib.ListN.{length};
-ghost use Rattle.vcf.specs.Record.{posOn};
+ghost use Rattle.records.specs.Record.{posOn};
 ghost use Rattle.vcf.specs.Entry.{lineAt, nextLine, entryOf, recordsAt, linesAbove, part, readable?, readableFrom?, recordAt};
-use crate::allele::alt_count;
-use crate::bytes::COMMA;
-use crate::bytes::LF;
-use crate::bytes::TAB;
-use crate::bytes::find;
-use crate::field::field_from;
-use crate::field::fields_of;
-use crate::genotype::genotype_of;
-use crate::header::is_header_line;
-use crate::pos::read_pos;
-use crate::record::pos_on;
 use bases::place::Pos;
+use fields::allele::alt_count;
+use fields::bytes::COMMA;
+use fields::bytes::LF;
+use fields::bytes::TAB;
+use fields::bytes::find;
+use fields::field::field_from;
+use fields::field::fields_of;
+use fields::genotype::genotype_of;
+use fields::header::is_header_line;
+use fields::pos::read_pos;
+use records::record::pos_on;
 
 // A part of a text: where it begins and how many bytes it has.
 pub struct Part {

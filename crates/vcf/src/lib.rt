@@ -1,10 +1,3 @@
-// A list's text: lines, fields, entries, and the refusals of a list (rows 3 to 15). The contracts cite specs/.
-pub mod allele;
-pub mod bytes;
+// A list's text: its lines, what refuses it (rows 3 to 15), and its entries. The contracts cite specs/.
 pub mod entry;
-pub mod field;
-pub mod genotype;
-pub mod header;
 pub mod list;
-pub mod pos;
-pub mod record;

@@ -3,18 +3,18 @@ ghost use mathlib.Core.Path.{_≡_};
 ghost use Prim.Native.Nat.{_+_, _<_, _^_};
 ghost use lib.Dec.{T};
 ghost use mathlib.Core.Bool.{true};
-ghost use Rattle.vcf.specs.Field.{tenFields?};
+ghost use Rattle.fields.specs.Field.{tenFields?};
 ghost use Rattle.vcf.specs.List.{textWrong?, lineRows, nextStage, judgeText};
-ghost use Rattle.vcf.specs.Row.{firstRow};
-use crate::bytes::LF;
-use crate::bytes::find;
-use crate::field::fields_of;
-use crate::header::header_wrong;
-use crate::header::is_header_line;
-use crate::record::is_too_long;
-use crate::record::pos_on;
-use crate::record::record_fault;
+ghost use Rattle.records.specs.Row.{firstRow};
 use bases::place::Pos;
+use fields::bytes::LF;
+use fields::bytes::find;
+use fields::field::fields_of;
+use fields::header::header_wrong;
+use fields::header::is_header_line;
+use records::record::is_too_long;
+use records::record::pos_on;
+use records::record::record_fault;
 
 // The most bytes that a list's text has.
 pub const LONGEST_TEXT: usize = 65_536;

@@ -42,15 +42,15 @@ use denote.Triple.Table.{entered, cited}
 use Rattle.bases.specs.Put.{put}
 use Rattle.bases.proofs.TestLaws.{neither}
 use Rattle.clusters.specs.declared.plan.Cluster.{Cluster}
-use Rattle.clusters.specs.Marks.{clustersOf, allMarks, totalScore}
+use Rattle.marks.specs.Marks.{clustersOf, allMarks, totalScore}
 use Rattle.clusters.specs.Merged.{mergedItems}
 use Rattle.clusters.specs.Plan.{planOf}
 use Rattle.clusters.proofs.ByHand.{tells-values, lastIn, lastVals, last-out, lastLft, lastShare, token-out}
 use Rattle.clusters.proofs.Leaving.{leaves}
 use Rattle.clusters.proofs.PlanSteps.{R, word, text}
-use Rattle.clusters.proofs.mark.mark_every as mark-every
-use Rattle.clusters.proofs.mark.mark_every.Symbol as mark-every-def
-use Rattle.clusters.proofs.mark.mark_every.Met as mark-every-thm
+use Rattle.marks.proofs.mark.mark_every as mark-every
+use Rattle.marks.proofs.mark.mark_every.Symbol as mark-every-def
+use Rattle.marks.proofs.mark.mark_every.Met as mark-every-thm
 use Rattle.clusters.proofs.plan.fill_plan as fill-plan
 use Rattle.clusters.proofs.plan.fill_plan.Symbol as fill-plan-def
 use Rattle.clusters.proofs.plan.fill_plan.Met as fill-plan-thm
@@ -278,6 +278,6 @@ mark-all-spec 𝓤 H 𝓜 𝓖 𝓡 =
       small = cited 𝓤 H (Small 𝓤 H (𝓖 .A) (𝓜 .mem) (𝓡 .run)) 𝓜 𝓡 code.env is-small-def.name is-small-def.routine code.calls-card·lists·is-small (is-small-thm.met 𝓤 H 𝓜 𝓖 𝓡);
       refused = cited 𝓤 H (Refused 𝓤 H (𝓖 .A) (𝓜 .mem) (𝓡 .run)) 𝓜 𝓡 code.env lists-refused-def.name lists-refused-def.routine code.calls-card·lists·lists-refused (lists-refused-thm.met 𝓤 H 𝓜 𝓖 𝓡);
       fill = cited 𝓤 H (Fill 𝓤 H (𝓖 .A) (𝓜 .mem) (𝓡 .run)) 𝓜 𝓡 code.env fill-plan-def.name fill-plan-def.routine code.calls-clusters·plan·fill-plan (fill-plan-thm.met 𝓤 H 𝓜 𝓖 𝓡);
-      every = cited 𝓤 H (Every 𝓤 H (𝓖 .A) (𝓜 .mem) (𝓡 .run)) 𝓜 𝓡 code.env mark-every-def.name mark-every-def.routine code.calls-clusters·mark·mark-every (mark-every-thm.met 𝓤 H 𝓜 𝓖 𝓡);
+      every = cited 𝓤 H (Every 𝓤 H (𝓖 .A) (𝓜 .mem) (𝓡 .run)) 𝓜 𝓡 code.env mark-every-def.name mark-every-def.routine code.calls-marks·mark·mark-every (mark-every-thm.met 𝓤 H 𝓜 𝓖 𝓡);
       all = cited 𝓤 H (All 𝓤 H (𝓖 .A) (𝓜 .mem) (𝓡 .run)) 𝓜 𝓡 code.env all-marked-def.name all-marked-def.routine code.calls-card·all·all-marked (all-marked-thm.met 𝓤 H 𝓜 𝓖 𝓡);
     })

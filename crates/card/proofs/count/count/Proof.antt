@@ -5,7 +5,7 @@ use lib.Dec.{ltb}
 use lib.ListN.{length}
 use Rattle.clusters.specs.Heads.{startHeads}
 use Rattle.clusters.specs.Merged.{mergedItems}
-use Rattle.clusters.proofs.CountLaws.{counts-few}
+use Rattle.marks.proofs.CountLaws.{counts-few}
 use Rattle.clusters.proofs.HeadsLaws.{ready-readable}
 use Rattle.card.specs.declared.answer.Answer.{Answer}
 use Rattle.card.specs.Answer.{refusedAnswer}

@@ -10,14 +10,14 @@ use contract.Running.{givenOf, tables, tablesOf}
 use denote.Triple.Spec.{tripleOf}
 use denote.Triple.Table.{entered, cited}
 use Rattle.clusters.specs.Heads.{Ready, startHeads}
-use Rattle.clusters.specs.Listed.{listedOf}
+use Rattle.listed.specs.Listed.{listedOf}
 use Rattle.clusters.specs.Merged.{mergedItems}
 use Rattle.clusters.proofs.ByHand.{Met}
-use Rattle.clusters.proofs.ListedLaws.{listed-length}
-use Rattle.clusters.proofs.listed.Listed as Listed′
-use Rattle.clusters.proofs.listed.Listed.Laws as Listed″
-use Rattle.clusters.proofs.listed.fill_entries.Symbol as fill-entries-def
-use Rattle.clusters.proofs.listed.fill_entries.Met as fill-entries-thm
+use Rattle.listed.proofs.ListedLaws.{listed-length}
+use Rattle.listed.proofs.listed.Listed as Listed′
+use Rattle.listed.proofs.listed.Listed.Laws as Listed″
+use Rattle.listed.proofs.listed.fill_entries.Symbol as fill-entries-def
+use Rattle.listed.proofs.listed.fill_entries.Met as fill-entries-thm
 use Rattle.card.specs.Plan.{planRefusal}
 use Rattle.card.specs.Refusal.{leastRoom}
 use Rattle.card.proofs.FillCall.{Fills}
@@ -51,5 +51,5 @@ entries-spec 𝓤 H 𝓜 𝓖 𝓡 =
     (meets Listed′.the-row Listed″.mir fill-entries-def.name listedOf Asks asked 𝓤 H (𝓖 .A) (givenOf 𝓤 H 𝓜 𝓖) (𝓜 .mem) (𝓡 .run) (tablesOf 𝓤 H 𝓜 (tables 𝓤 H 𝓜 𝓡 code.env))
     (cited 𝓤 H (Refused 𝓤 H (𝓖 .A) (𝓜 .mem) (𝓡 .run)) 𝓜 𝓡 code.env lists-refused-def.name lists-refused-def.routine code.calls-card·lists·lists-refused (lists-refused-thm.met 𝓤 H 𝓜 𝓖 𝓡))
     (cited 𝓤 H (Met 𝓤 H (𝓖 .A) (Lends Listed′.the-row) (Fills Listed′.the-row listedOf 𝓤 Asks)) 𝓜 𝓡 code.env fill-entries-def.name fill-entries-def.routine
-    code.calls-clusters·listed·fill-entries (fill-entries-thm.met 𝓤 H 𝓜 𝓖 𝓡))
+    code.calls-listed·listed·fill-entries (fill-entries-thm.met 𝓤 H 𝓜 𝓖 𝓡))
     (cited 𝓤 H (Give 𝓤 H (𝓖 .A) (𝓜 .mem) (𝓡 .run)) 𝓜 𝓡 code.env give-def.name give-def.routine code.calls-card·answer·give (give-thm.met 𝓤 H 𝓜 𝓖 𝓡)))

@@ -47,7 +47,7 @@ use Rattle.bases.proofs.TestLaws.{neither}
 use Rattle.bases.specs.Pick.{pick}
 use Rattle.clusters.specs.declared.plan.Cluster.{Cluster}
 use Rattle.clusters.specs.Lent.{isPlan?}
-use Rattle.clusters.specs.Marks.{clustersOf, askedFor, marksAfter}
+use Rattle.marks.specs.Marks.{clustersOf, askedFor, marksAfter}
 use Rattle.clusters.specs.Plan.{planOf}
 use Rattle.clusters.proofs.Leaving.{leaves}
 use Rattle.clusters.proofs.PlanSteps.{R, word, text}

@@ -4,8 +4,8 @@ use mathlib.Core.Path.{ap, _∙_}
 use native.Mathlib.Omega.{arith}
 use borrow.Author.Needs.{needs}
 use borrow.Author.Tests.{not-true, not-false}
-use Rattle.clusters.specs.declared.mark.Marked.{Marked}
-use Rattle.clusters.specs.Marks.{clustersOf}
+use Rattle.marks.specs.declared.mark.Marked.{Marked}
+use Rattle.marks.specs.Marks.{clustersOf}
 use Rattle.card.proofs.ScoreLaws.{asked-score}
 use Rattle.card.proofs.mark.mark_planned.Statement.{statement}
 use Rattle.card.proofs.mark.mark_planned.Tie as tie

@@ -7,8 +7,8 @@ use lib.Dec.{ltb}
 use lib.ListN.{length}
 use Rattle.bases.proofs.PutLaws.{put-length}
 use Rattle.bases.proofs.TestLaws.{of-true}
-use Rattle.normal.specs.Written.{writtenText}
-use Rattle.normal.proofs.WrittenList.{written-not-longer}
+use Rattle.written.specs.Written.{writtenText}
+use Rattle.written.proofs.WrittenList.{written-not-longer}
 use Rattle.vcf.proofs.JudgeLaws.{accepted-zero, text-fits}
 use Rattle.card.specs.declared.answer.Answer.{Answer}
 use Rattle.card.specs.Answer.{answer}

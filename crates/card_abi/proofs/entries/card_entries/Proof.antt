@@ -2,8 +2,8 @@
 use contract.Running.{givenOf, tables, tablesOf}
 use denote.Triple.Spec.{tripleOf}
 use denote.Triple.Table.{entered, cited}
-use Rattle.clusters.proofs.listed.Listed as Listed′
-use Rattle.clusters.proofs.listed.Listed.Laws as Listed″
+use Rattle.listed.proofs.listed.Listed as Listed′
+use Rattle.listed.proofs.listed.Listed.Laws as Listed″
 use Rattle.card.proofs.entries.entries as entries
 use Rattle.card.proofs.entries.entries.Symbol as entries-def
 use Rattle.card.proofs.entries.entries.Met as entries-thm

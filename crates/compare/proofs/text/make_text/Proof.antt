@@ -6,9 +6,9 @@ use native.Mathlib.Omega.{arith}
 use borrow.Author.Needs.{needs}
 use lib.ListN.{length, take}
 use Rattle.clusters.specs.declared.plan.Cluster.{Cluster}
-use Rattle.clusters.specs.Counts.{countAll, countsOf, totals}
+use Rattle.marks.specs.Counts.{countAll, countsOf, totals}
 use Rattle.clusters.specs.Merged.{mergedItems}
-use Rattle.clusters.proofs.CountLaws.{totals-all, count-few}
+use Rattle.marks.proofs.CountLaws.{totals-all, count-few}
 use Rattle.lines.proofs.WroteLaws.{left-last}
 use Rattle.compare.specs.Printed.{totalLine}
 use Rattle.compare.proofs.TextLaws.{Printing, printing-begin, printing-fits, printing-more, printing-end, printing-all, text-wrote}

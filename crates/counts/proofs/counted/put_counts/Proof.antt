@@ -4,7 +4,7 @@ use borrow.Author.Needs.{needs}
 use Rattle.lines.specs.Lines.{fields}
 use Rattle.lines.proofs.FieldLaws.{fields-few}
 use Rattle.lines.proofs.WroteLaws.{wrote-then}
-use Rattle.vcf.specs.Bytes.{LF, TAB}
+use Rattle.fields.specs.Bytes.{LF, TAB}
 use Rattle.counts.proofs.counted.put_counts.Statement.{statement}
 use Rattle.counts.proofs.counted.put_counts.Tie as tie
 

@@ -4,7 +4,7 @@ use Prim.Native.Nat.{_≤_}
 use native.Mathlib.Omega.{arith}
 use borrow.Author.Needs.{needs}
 use lib.ListN.{length}
-use Rattle.vcf.specs.Bytes.{TAB}
+use Rattle.fields.specs.Bytes.{TAB}
 use Rattle.lines.specs.Lines.{field}
 use Rattle.lines.proofs.FieldLaws.{field-few}
 use Rattle.lines.proofs.WroteLaws.{wrote-then}

@@ -5,7 +5,7 @@ use Prim.Native.Nat.{_+_, _/_, _%_, _≤_}
 use native.Mathlib.Omega.{arith}
 use borrow.Author.Needs.{needs}
 use lib.ListN.{length}
-use Rattle.normal.specs.Written.{decimal}
+use Rattle.written.specs.Written.{decimal}
 use Rattle.lines.proofs.FieldLaws.{number-pos, number-large, decimal-few}
 use Rattle.lines.proofs.WroteLaws.{wrote-then}
 use Rattle.lines.proofs.field.put_number.Statement.{statement}

@@ -1,7 +1,7 @@
 -- `lines::refused::refused_text` meets its contract: the word is written, and the three numbers behind it. Assumes nothing.
 use native.Mathlib.Omega.{arith}
 use borrow.Author.Needs.{needs}
-use Rattle.vcf.specs.Bytes.{LF}
+use Rattle.fields.specs.Bytes.{LF}
 use Rattle.lines.specs.Lines.{refusedWord, fields}
 use Rattle.lines.proofs.WroteLaws.{wrote-then}
 use Rattle.lines.proofs.refused.refused_text.Statement.{statement}

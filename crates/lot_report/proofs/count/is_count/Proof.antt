@@ -9,8 +9,8 @@ use borrow.Author.Tests.{not-true, not-false, eqb-true, ltb-true}
 use lib.Dec.{eqb, ltb}
 use lib.ListN.{length, getD, drop}
 use Rattle.bases.proofs.TestLaws.{of-true, is-true, both}
-use Rattle.vcf.proofs.PosLaws.{digits-stop, digits-more, digits-past}
-use Rattle.vcf.specs.Pos.{digit?, allDigits?}
+use Rattle.fields.proofs.PosLaws.{digits-stop, digits-more, digits-past}
+use Rattle.fields.specs.Pos.{digit?, allDigits?}
 use Rattle.lot_report.proofs.CountLaws.{count-none, count-zero, count-other, count-is}
 use Rattle.lot_report.proofs.count.is_count.Statement.{statement}
 use Rattle.lot_report.proofs.count.is_count.Tie as tie

@@ -7,8 +7,8 @@ use native.Mathlib.Omega.{arith}
 use borrow.Author.Needs.{needs}
 use lib.ListN.{length, getD, drop}
 use Rattle.bases.proofs.TestLaws.{is-true}
-use Rattle.vcf.proofs.PosLaws.{digit-low, digit-high, value-more, value-past, value-grows}
-use Rattle.vcf.specs.Pos.{allDigits?, valueFrom}
+use Rattle.fields.proofs.PosLaws.{digit-low, digit-high, value-more, value-past, value-grows}
+use Rattle.fields.specs.Pos.{allDigits?, valueFrom}
 use Rattle.lot_report.specs.Count.{largestCount}
 use Rattle.lot_report.proofs.CountLaws.{digits-here, capped-small, capped-large}
 use Rattle.lot_report.proofs.count.read_count.Statement.{statement}

@@ -7,8 +7,8 @@ use borrow.Author.Tests.{not-true, not-false}
 use lib.ListN.{drop}
 use Rattle.files.proofs.FileLaws.{ends-some}
 use Rattle.lines.proofs.WroteLaws.{wrote-text}
-use Rattle.vcf.proofs.FieldLaws.{until-within}
-use Rattle.vcf.specs.Bytes.{LF}
+use Rattle.fields.proofs.FieldLaws.{until-within}
+use Rattle.fields.specs.Bytes.{LF}
 use Rattle.vcf.specs.List.{linesOf}
 use Rattle.lot_report.specs.Run.{runLines, badLine}
 use Rattle.lot_report.proofs.RunLaws.{bad-runs}

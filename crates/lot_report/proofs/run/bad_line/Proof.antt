@@ -7,9 +7,9 @@ use native.Mathlib.Omega.{arith}
 use borrow.Author.Needs.{needs}
 use borrow.Author.Tests.{not-true, not-false}
 use lib.ListN.{length, take, drop}
-use Rattle.vcf.proofs.FieldLaws.{until-within}
+use Rattle.fields.proofs.FieldLaws.{until-within}
 use Rattle.vcf.proofs.ListLaws.{lines-at, lines-past}
-use Rattle.vcf.specs.Bytes.{LF, until}
+use Rattle.fields.specs.Bytes.{LF, until}
 use Rattle.vcf.specs.Entry.{lineAt, nextLine}
 use Rattle.vcf.specs.List.{linesOf}
 use Rattle.lot_report.specs.Run.{run?, badLine}

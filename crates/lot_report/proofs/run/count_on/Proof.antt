@@ -3,7 +3,7 @@ use mathlib.Core.List.{List}
 use mathlib.Core.Path.{_≡_, ap, _∙_}
 use Prim.Native.Nat.{ℕ}
 use borrow.Author.Needs.{needs}
-use Rattle.vcf.specs.Field.{field, fieldFrom}
+use Rattle.fields.specs.Field.{field, fieldFrom}
 use Rattle.lot_report.specs.Count.{countOf}
 use Rattle.lot_report.proofs.RunLaws.{run-field}
 use Rattle.lot_report.proofs.run.count_on.Statement.{statement}

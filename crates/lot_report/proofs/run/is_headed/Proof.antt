@@ -6,8 +6,8 @@ use borrow.Author.Needs.{needs}
 use lib.ListN.{take, drop}
 use lib.Seq.{length-take-le}
 use Rattle.bases.specs.Same.{same?}
-use Rattle.vcf.proofs.FieldLaws.{until-within}
-use Rattle.vcf.specs.Bytes.{LF, until}
+use Rattle.fields.proofs.FieldLaws.{until-within}
+use Rattle.fields.specs.Bytes.{LF, until}
 use Rattle.lot_report.specs.Run.{runsHeading}
 use Rattle.lot_report.proofs.run.is_headed.Statement.{statement}
 use Rattle.lot_report.proofs.run.is_headed.Tie as tie

@@ -8,9 +8,9 @@ use native.Mathlib.Omega.{arith}
 use borrow.Author.Needs.{needs}
 use borrow.Author.Tests.{not-true, not-false}
 use lib.ListN.{length}
-use Rattle.vcf.proofs.FieldLaws.{until-within, skip-zero, skip-more}
-use Rattle.vcf.specs.Bytes.{TAB}
-use Rattle.vcf.specs.Field.{fieldEnd, fieldFrom}
+use Rattle.fields.proofs.FieldLaws.{until-within, skip-zero, skip-more}
+use Rattle.fields.specs.Bytes.{TAB}
+use Rattle.fields.specs.Field.{fieldEnd, fieldFrom}
 use Rattle.lot_report.specs.Count.{count?}
 use Rattle.lot_report.specs.Run.{countsOfRun, counts?, run?}
 use Rattle.lot_report.proofs.RunLaws.{run-unnamed, run-named, counts-zero, counts-past, counts-stop, counts-more}

@@ -6,9 +6,9 @@ use Prim.Native.Nat.{ℕ, _+_, _-_, _≤_}
 use native.Mathlib.Omega.{arith}
 use borrow.Author.Needs.{needs}
 use lib.ListN.{length, drop}
-use Rattle.vcf.proofs.FieldLaws.{until-within}
+use Rattle.fields.proofs.FieldLaws.{until-within}
 use Rattle.vcf.proofs.ListLaws.{lines-at, lines-past}
-use Rattle.vcf.specs.Bytes.{LF}
+use Rattle.fields.specs.Bytes.{LF}
 use Rattle.vcf.specs.Entry.{nextLine}
 use Rattle.vcf.specs.List.{linesOf}
 use Rattle.lot_report.proofs.runs.count_lines.Statement.{statement}

@@ -9,8 +9,8 @@ use lib.ListN.{length, take, drop, length-set, length-replicate}
 use Rattle.bases.specs.Put.{put}
 use Rattle.lot.specs.declared.run.Run.{Run}
 use Rattle.lot.specs.Run.{mostRuns, noRun}
-use Rattle.vcf.proofs.FieldLaws.{until-within}
-use Rattle.vcf.specs.Bytes.{LF, until}
+use Rattle.fields.proofs.FieldLaws.{until-within}
+use Rattle.fields.specs.Bytes.{LF, until}
 use Rattle.vcf.specs.Entry.{lineAt, nextLine}
 use Rattle.vcf.specs.List.{linesOf}
 use Rattle.lot_report.specs.Run.{allRuns?, runOn, runsOn, noRuns}

@@ -8,7 +8,7 @@ use lib.ListN.{length}
 use Rattle.lines.proofs.FieldLaws.{field-few}
 use Rattle.lines.proofs.WroteLaws.{wrote-then}
 use Rattle.lines.specs.Lines.{field}
-use Rattle.vcf.specs.Bytes.{TAB}
+use Rattle.fields.specs.Bytes.{TAB}
 use Rattle.lot_report.specs.Table.{noShare, SLASH, percent}
 use Rattle.lot_report.proofs.ShareLaws.{share-none, share-some, percent-few}
 use Rattle.lot_report.proofs.share.put_share.Statement.{statement}

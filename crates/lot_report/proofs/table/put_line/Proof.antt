@@ -7,7 +7,7 @@ use lib.ListN.{length}
 use Rattle.lines.proofs.FieldLaws.{fields-few}
 use Rattle.lines.proofs.WroteLaws.{wrote-then}
 use Rattle.lines.specs.Lines.{fields}
-use Rattle.vcf.specs.Bytes.{LF, TAB}
+use Rattle.fields.specs.Bytes.{LF, TAB}
 use Rattle.lot_report.specs.Table.{shareText, lineText}
 use Rattle.lot_report.proofs.ShareLaws.{share-few}
 use Rattle.lot_report.proofs.table.put_line.Statement.{statement}

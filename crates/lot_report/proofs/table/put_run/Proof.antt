@@ -9,8 +9,8 @@ use Rattle.bases.specs.Put.{put}
 use Rattle.lot.specs.declared.run.Run.{Run}
 use Rattle.lot.specs.Lot.{lotOf, lotOfFirst}
 use Rattle.lot.specs.Run.{mostRuns}
-use Rattle.vcf.proofs.FieldLaws.{until-within, field-length, skip-zero}
-use Rattle.vcf.specs.Bytes.{TAB}
+use Rattle.fields.proofs.FieldLaws.{until-within, field-length, skip-zero}
+use Rattle.fields.specs.Bytes.{TAB}
 use Rattle.lot_report.specs.Run.{nameOf, runOn}
 use Rattle.lot_report.specs.Table.{lineText, runText}
 use Rattle.lot_report.proofs.LotLaws.{lot-alone, alone-answered, lot-printable}

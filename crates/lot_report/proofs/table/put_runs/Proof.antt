@@ -5,8 +5,8 @@ use Prim.Native.Nat.{_+_, _-_}
 use native.Mathlib.Omega.{arith}
 use borrow.Author.Needs.{needs}
 use lib.ListN.{length, drop}
-use Rattle.vcf.proofs.FieldLaws.{until-within}
-use Rattle.vcf.specs.Bytes.{LF, until}
+use Rattle.fields.proofs.FieldLaws.{until-within}
+use Rattle.fields.specs.Bytes.{LF, until}
 use Rattle.vcf.specs.Entry.{nextLine}
 use Rattle.lot_report.proofs.TableLaws.{fine-here, Listing, listing-begin, listing-room, listing-more, listing-end}
 use Rattle.lot_report.proofs.table.put_runs.Statement.{statement}

@@ -4,8 +4,8 @@ use Prim.Native.Nat.{_-_}
 use native.Mathlib.Omega.{arith}
 use borrow.Author.Needs.{needs}
 use lib.ListN.{drop}
-use Rattle.vcf.specs.Bytes.{LF, until}
-use Rattle.vcf.proofs.FieldLaws.{until-within}
+use Rattle.fields.specs.Bytes.{LF, until}
+use Rattle.fields.proofs.FieldLaws.{until-within}
 use Rattle.vcf.proofs.EntryLaws.{line-length, readable-here}
 use Rattle.vcf.proofs.entry.entry_at.Statement.{statement}
 use Rattle.vcf.proofs.entry.entry_at.Tie as tie

@@ -4,11 +4,11 @@ use native.Mathlib.Omega.{arith}
 use borrow.Author.Needs.{needs}
 use lib.Dec.{lit<}
 use lib.ListN.{length, drop}
-use Rattle.vcf.specs.Bytes.{TAB, COMMA, until}
-use Rattle.vcf.specs.Field.{fieldAt, field}
-use Rattle.vcf.proofs.FieldLaws.{until-within, field-length, field-within, read}
-use Rattle.vcf.proofs.EntryLaws.{entry-is}
-use Rattle.vcf.proofs.RecordLaws.{readable-ten, readable-right, sample-read, copies-read}
+use Rattle.fields.specs.Bytes.{TAB, COMMA, until}
+use Rattle.fields.specs.Field.{fieldAt, field}
+use Rattle.fields.proofs.FieldLaws.{until-within, field-length, field-within, read}
+use Rattle.vcf.proofs.EntryLaws.{readable-ten, readable-right, entry-is}
+use Rattle.records.proofs.RecordLaws.{sample-read, copies-read}
 use Rattle.vcf.proofs.entry.entry_on.Statement.{statement}
 use Rattle.vcf.proofs.entry.entry_on.Tie as tie
 

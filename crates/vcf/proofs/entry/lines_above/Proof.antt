@@ -7,11 +7,11 @@ use native.Mathlib.Omega.{arith}
 use borrow.Author.Needs.{needs}
 use borrow.Author.Tests.{not-true, not-false}
 use lib.ListN.{length, drop}
-use Rattle.vcf.specs.Bytes.{LF, until}
+use Rattle.fields.specs.Bytes.{LF, until}
 use Rattle.vcf.specs.Entry.{lineAt, nextLine, headerLines, linesAbove}
-use Rattle.vcf.specs.Header.{headerLine?}
+use Rattle.fields.specs.Header.{headerLine?}
 use Rattle.vcf.specs.List.{linesOf}
-use Rattle.vcf.proofs.FieldLaws.{until-within}
+use Rattle.fields.proofs.FieldLaws.{until-within}
 use Rattle.vcf.proofs.EntryLaws.{above-more, above-stop, above-past}
 use Rattle.vcf.proofs.entry.lines_above.Statement.{statement}
 use Rattle.vcf.proofs.entry.lines_above.Tie as tie

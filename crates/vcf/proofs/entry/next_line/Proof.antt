@@ -1,8 +1,8 @@
 -- `vcf::entry::next_line` meets its contract. Assumes nothing.
 use native.Mathlib.Omega.{arith}
 use borrow.Author.Needs.{needs}
-use Rattle.vcf.specs.Bytes.{LF}
-use Rattle.vcf.proofs.FieldLaws.{until-within}
+use Rattle.fields.specs.Bytes.{LF}
+use Rattle.fields.proofs.FieldLaws.{until-within}
 use Rattle.vcf.proofs.entry.next_line.Statement.{statement}
 use Rattle.vcf.proofs.entry.next_line.Tie as tie
 

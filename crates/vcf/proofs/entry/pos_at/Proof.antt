@@ -2,7 +2,7 @@
 use mathlib.Core.Path.{ap, _∙_}
 use native.Mathlib.Omega.{arith}
 use borrow.Author.Needs.{needs}
-use Rattle.vcf.specs.Pos.{readPos}
+use Rattle.fields.specs.Pos.{readPos}
 use Rattle.vcf.proofs.PosAtLaws.{pos-inside, pos-field}
 use Rattle.vcf.proofs.entry.pos_at.Statement.{statement}
 use Rattle.vcf.proofs.entry.pos_at.Tie as tie

@@ -5,12 +5,12 @@ use Prim.Native.Nat.{ℕ, _+_, _-_, _≤_}
 use native.Mathlib.Omega.{arith}
 use borrow.Author.Needs.{needs}
 use lib.ListN.{length, take, drop}
-use Rattle.vcf.specs.Bytes.{LF, until}
+use Rattle.fields.specs.Bytes.{LF, until}
 use Rattle.vcf.specs.List.{linesOf, above, nextStage, lineRows, fault, judgeLines}
-use Rattle.vcf.specs.Row.{firstRow}
-use Rattle.vcf.proofs.FieldLaws.{until-within}
+use Rattle.records.specs.Row.{firstRow}
+use Rattle.fields.proofs.FieldLaws.{until-within}
 use Rattle.vcf.proofs.ListLaws.{lines-at, lines-past, rows-below, next-records, judge-stop, judge-more, judge-end-below, judge-end-above, text-wrong, text-right}
-use Rattle.vcf.proofs.RecordLaws.{record-ten}
+use Rattle.records.proofs.RecordLaws.{record-ten}
 use Rattle.vcf.proofs.list.judge.Statement.{statement}
 use Rattle.vcf.proofs.list.judge.Tie as tie
 

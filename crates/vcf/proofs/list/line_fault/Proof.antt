@@ -2,9 +2,9 @@
 use mathlib.Core.List.{[]}
 use mathlib.Core.Path.{sym, ap, _∙_}
 use borrow.Author.Needs.{needs}
-use Rattle.vcf.specs.Row.{firstRow}
+use Rattle.records.specs.Row.{firstRow}
 use Rattle.vcf.proofs.ListLaws.{rows-below, rows-above}
-use Rattle.vcf.proofs.RowLaws.{first-row-holds, first-row-not, first-row-none}
+use Rattle.records.proofs.RowLaws.{first-row-holds, first-row-not, first-row-none}
 use Rattle.vcf.proofs.list.line_fault.Statement.{statement}
 use Rattle.vcf.proofs.list.line_fault.Tie as tie
 

@@ -1,0 +1,6 @@
+pub mod Allele
+pub mod Bytes
+pub mod Field
+pub mod Genotype
+pub mod Header
+pub mod Pos

@@ -1,0 +1,7 @@
+// What stands in a line of a list: bytes, fields, POS, alleles, genotype, header lines (rows 5 to 11). The contracts cite specs/.
+pub mod allele;
+pub mod bytes;
+pub mod field;
+pub mod genotype;
+pub mod header;
+pub mod pos;

@@ -1,0 +1,11 @@
+pub mod CountLaws
+pub mod CountingLaws
+pub mod Determines
+pub mod EntryCounts
+pub mod EveryLaws
+pub mod FillLaws
+pub mod MarkLaws
+pub mod RowLaws
+pub mod SkipLaws
+pub mod StretchLaws
+pub mod TakeLaws

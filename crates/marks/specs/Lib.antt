@@ -1,0 +1,5 @@
+pub mod Counts
+pub mod Markable
+pub mod Marks
+pub mod Row
+pub mod Skip

@@ -1,0 +1,4 @@
+pub mod Determines
+pub mod RecordLaws
+pub mod RecordLineLaws
+pub mod RowLaws
