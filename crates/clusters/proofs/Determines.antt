@@ -1,5 +1,5 @@
 -- Each contract determines its result: any two results that it allows for the same arguments are equal.
--- No function here is lent anything that it can write.
+-- None of these functions is lent anything that it can write; those over lent records are in LentDetermines.
 -- Assumes nothing.
 use mathlib.Core.Path.{sym, _∙_}
 use Rattle.bases.proofs.Determines.{OneResult}

@@ -1,4 +1,5 @@
-// What stands in a line of a list: bytes, fields, POS, alleles, genotype, header lines (rows 5 to 11). The contracts cite specs/.
+// What stands in a line of a list: bytes, fields, POS, alleles, genotype, header lines (the tests of rows 5, 6 and 8 to 11).
+// The contracts cite specs/.
 pub mod allele;
 pub mod bytes;
 pub mod field;
