@@ -22,6 +22,12 @@ use Rattle.bases.proofs.same.agree.Kinds as agree-kinds
 use Rattle.bases.proofs.same.agree.Reads as agree
 use Rattle.bases.proofs.same.same_bases.Kinds as same-bases-kinds
 use Rattle.bases.proofs.same.same_bases.Reads as same-bases
+use Rattle.bases.proofs.stretch.part_agrees.Kinds as part-agrees-kinds
+use Rattle.bases.proofs.stretch.part_agrees.Reads as part-agrees
+use Rattle.bases.proofs.stretch.parts_agree.Kinds as parts-agree-kinds
+use Rattle.bases.proofs.stretch.parts_agree.Reads as parts-agree
+use Rattle.bases.proofs.stretch.stretches_agree.Kinds as stretches-agree-kinds
+use Rattle.bases.proofs.stretch.stretches_agree.Reads as stretches-agree
 use Rattle.bases.proofs.reference.is_reference.Kinds as is-reference-kinds
 use Rattle.bases.proofs.reference.is_reference.Reads as is-reference
 use Rattle.bases.proofs.place.pos_of.Kinds as pos-of-kinds
@@ -67,6 +73,15 @@ agree-determines κs a z z′ e e′ p q = p ∙ sym q
 
 pub same-bases-determines : OneResult 2 same-bases-kinds.ps same-bases-kinds.r same-bases.Post
 same-bases-determines κs a z z′ e e′ p q = p ∙ sym q
+
+pub part-agrees-determines : OneResult 2 part-agrees-kinds.ps part-agrees-kinds.r part-agrees.Post
+part-agrees-determines κs a z z′ e e′ p q = p ∙ sym q
+
+pub parts-agree-determines : OneResult 2 parts-agree-kinds.ps parts-agree-kinds.r parts-agree.Post
+parts-agree-determines κs a z z′ e e′ p q = p ∙ sym q
+
+pub stretches-agree-determines : OneResult 1 stretches-agree-kinds.ps stretches-agree-kinds.r stretches-agree.Post
+stretches-agree-determines κs a z z′ e e′ p q = p ∙ sym q
 
 pub is-reference-determines : OneResult 1 is-reference-kinds.ps is-reference-kinds.r is-reference.Post
 is-reference-determines κs a z z′ e e′ p q = p ∙ sym q

@@ -7,4 +7,5 @@ pub mod PlaceLaws
 pub mod PutLaws
 pub mod ReferenceLaws
 pub mod SameLaws
+pub mod StretchLaws
 pub mod TestLaws

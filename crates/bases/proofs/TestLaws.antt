@@ -2,6 +2,7 @@
 --     of-true, of-false     what a test's value says
 --     is-true, is-false     a test's value from what it says
 --     both, either, neither a test made of two
+--     one-test              two tests that say the same are equal
 -- Assumes nothing.
 use mathlib.Core.Bool.{Bool, true, false, _&&_, _||_}
 use mathlib.Core.Logic.{_↔_, _⊎_, inl, inr, ⊎-elim}
@@ -33,3 +34,7 @@ either false t = (λ h. inr h, ⊎-elim (λ h. absurd h) (λ h. h))
 pub neither : (s t : Bool) → s || t ≡ false → (s ≡ false) × (t ≡ false)
 neither true t e = absurd (of-false e tt)
 neither false t e = (refl, e)
+
+pub one-test : (s t : Bool) → (T s ↔ T t) → s ≡ t
+one-test true t f = sym (is-true t (f .0 tt))
+one-test false t f = sym (is-false t (λ h. f .1 h))

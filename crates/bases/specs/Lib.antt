@@ -6,3 +6,4 @@ pub mod Place
 pub mod Put
 pub mod Reference
 pub mod Same
+pub mod Stretch

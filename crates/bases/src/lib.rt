@@ -7,3 +7,4 @@ pub mod place;
 pub mod put;
 pub mod reference;
 pub mod same;
+pub mod stretch;
