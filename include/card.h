@@ -14,7 +14,7 @@
  *   - Through a pointer to const the card only reads. Such buffers may overlap one another.
  *   - A buffer that the card writes overlaps no other buffer of the call.
  *   - Nothing else writes to a lent buffer until the call returns, and nothing else reads one that the card writes.
- *   - The thread has enough stack: 256 KiB will do. docs/BENCH.md says what each call was seen to take.
+ *   - The thread has 4,096 bytes of stack left: no call takes more, whatever it is lent. docs/BENCH.md says what each takes.
  *
  * All else is the card's part: bad input is refused, and a refused call changes no lent byte.
  */

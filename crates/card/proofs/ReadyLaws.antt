@@ -15,7 +15,7 @@ use Rattle.clusters.specs.Item.{variant}
 use Rattle.marks.specs.Marks.{clustersOf, totalScore}
 use Rattle.clusters.specs.Merged.{mergedItems}
 use Rattle.clusters.specs.Plan.{planOf}
-use Rattle.clusters.proofs.CardClusters.{map-length}
+use Rattle.clusters.proofs.CardClusters.{clusters-plain, map-length}
 use Rattle.clusters.proofs.NextLaws.{accepted-ready}
 use Rattle.card.specs.Refusal.{firstRefusal, leastRoom, listsChecks}
 use Rattle.card.proofs.ClusterMarks.{whole-long, entries-most, plan-few}
@@ -40,7 +40,7 @@ lists-answerable reference name first second small z =
         short = reference-iff reference .0 (of-true (r .0 .right)) .1;
         entries = omega (arith, map-length (variant reference first second) (mergedItems first second), most);
         clusters = plan-few reference name first second (r .0 .accepted) (r .1);
-        score = omega (arith, total-score reference (clustersOf reference first second), whole-long reference name first second (r .0 .accepted) (r .1), most);
+        score = omega (arith, total-score reference (clustersOf reference first second) (clusters-plain reference first second), whole-long reference name first second (r .0 .accepted) (r .1), most);
       },
       r .0 .roomy,
     )

@@ -1,14 +1,16 @@
 -- Laws of the plan.
 --     onto-onto                    items in front of items in front of clusters
 --     rest-cuts, plan-join, plan-cuts     the clusters joined are the items, and each is cut from what is behind it where matching may cut
+--     plan-all                     what holds of each item holds of each in each cluster
 --     plan-best                    so the best of all items is the best of each cluster, joined
 -- Assumes nothing.
-use mathlib.Core.Bool.{Bool, true, false}
+use mathlib.Core.Bool.{Bool, true, false, cond}
 use mathlib.Core.List.{List, [], _∷_, _++_, map, append-assoc, append-nil}
 use mathlib.Core.Path.{_≡_, refl, sym, ap, _∙_}
 use Prim.Native.Nat.{ℕ}
 use lib.ListN.{length}
 use Rattle.bases.proofs.TestLaws.{of-true}
+use Rattle.donors.specs.Apart.{All}
 use Rattle.donors.specs.Items.{Ends, Sorted}
 use Rattle.donors.specs.Rules.{Rules}
 use Rattle.matching.specs.Best.{Scoring}
@@ -23,6 +25,10 @@ use Rattle.clusters.proofs.GapLaws.{currentOf, current-begin, current-m
 pub onto-onto {ℓ} : {A : Type ℓ} (c d : List A) (es : List (List A)) → onto c (onto d es) ≡ onto (c ++ d) es
 onto-onto c d [] = refl
 onto-onto c d (e ∷ es) = ap (λ (f : List _). f ∷ es) (sym (append-assoc c d e))
+
+onto-all : {A : Type 0} (P : A → Type 0) (x : A) (cs : List (List A)) → P x → All (All P) cs → All (All P) (onto (x ∷ []) cs)
+onto-all P x [] p u = ((p, tt), tt)
+onto-all P x (c ∷ cs) p u = ((p, u .0), u .1)
 
 module _ {X C H : Type 0} (𝓡 : Rules X C H) (R : List ℕ) where
   -- Where the rule cuts, and where it does not.
@@ -39,6 +45,24 @@ module _ {X C H : Type 0} (𝓡 : Rules X C H) (R : List ℕ) where
   pub rest-none : (c : Current) → rest 𝓡 R c [] ≡ [] ∷ []
   unfolding rest
   rest-none c = refl
+
+  rest-all : (P : X → Type 0) (c : Current) (xs : List X) → All P xs → All (All P) (rest 𝓡 R c xs)
+  unfolding rest
+  rest-all P c [] u = (tt, tt)
+  rest-all P c (x ∷ xs) u =
+      let apart = rest 𝓡 R (begin (sizeOf 𝓡 x)) xs in
+      let along = rest 𝓡 R (more c (sizeOf 𝓡 x)) xs in
+      go (onto (x ∷ []) apart) (onto (x ∷ []) along) (cut? R c (sizeOf 𝓡 x .start))
+      (onto-all P x apart (u .0) (rest-all P (begin (sizeOf 𝓡 x)) xs (u .1))) (onto-all P x along (u .0) (rest-all P (more c (sizeOf 𝓡 x)) xs (u .1)))
+    where
+      go : (cs ds : List (List X)) (t : Bool) → All (All P) cs → All (All P) ds → All (All P) (cond t ([] ∷ cs) ds)
+      go cs ds true v w = (tt, v)
+      go cs ds false v w = w
+
+  pub plan-all : (P : X → Type 0) (xs : List X) → All P xs → All (All P) (plan 𝓡 R xs)
+  unfolding plan
+  plan-all P [] u = tt
+  plan-all P (x ∷ xs) u = onto-all P x (rest 𝓡 R (begin (sizeOf 𝓡 x)) xs) (u .0) (rest-all P (begin (sizeOf 𝓡 x)) xs (u .1))
 
   -- The clusters, of which the first is cur as far as it goes.
   rest-cuts : (cur xs : List X) → Sorted 𝓡 xs → Ends 𝓡 (length R) xs

@@ -30,13 +30,17 @@ abbrev pub alleleOf : List ℕ → List ℕ → Entry → ℕ → List ℕ
 alleleOf reference text e k =
     basesOf (named k (bytesOf reference (part (startOf e .0) (e .reference .len))) (bytesOf text (e .first)) (bytesOf text (e .second)))
 
--- The entry as matching reads it: its list, where REF starts, how long REF is, and the alleles that its copies' numbers name.
+-- The entry as matching reads it: its list, where REF starts, how long REF is, its weight, and the alleles that its copies' numbers name,
+-- each of which takes its span.
 abbrev pub variantOf : List ℕ → List ℕ → Bool → Entry → Variant
 variantOf reference text side e = record {
   side = side;
   start = startOf e .0;
   len = e .reference .len;
+  weight = 1;
+  room0 = true;
   allele0 = alleleOf reference text e (e .copy0);
+  room1 = true;
   allele1 = alleleOf reference text e (e .copy1);
 }
 

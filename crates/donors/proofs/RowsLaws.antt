@@ -1,73 +1,85 @@
--- Laws of a list's donor over a stretch of the reference, built row by row.
---     StandsAt        rows before i are added: the donor's front stands in the buffer, and what is left of it is that of the rows from i on
---     rows-start, rows-more, rows-skip, rows-last
---                     before the first row, after one more, after one that is not chosen, and after the last
---     rows-fits       there is what it takes to add row i
---     rows-grow, rows-space
---                     the donor grows, and the buffer is as long as it was
+-- Laws of the edits of a list's rows.
+--     editsIn, editAt         the edits of n rows from row i on, and that of row i
+--     edits-taken, edits-skipped, edits-past
+--                             the edits of the rows from row i on: by whether row i takes its span, and at the end
+--     edits-next              they are those from the next row on that takes its span
+--     edits-own               a list's edits come from the text of that list alone
 -- Assumes nothing.
-use mathlib.Core.Bool.{Bool, false, Bool·beq}
+use mathlib.Core.Bool.{Bool, true, false, Bool·beq, _&&_}
 use mathlib.Core.List.{List, [], _∷_}
-use mathlib.Core.Path.{_≡_, ap, _∙_}
-use Prim.Native.Nat.{ℕ, _+_, _-_, _≤_, _<_}
+use mathlib.Core.Path.{_≡_, refl, _∙_}
+use Prim.Native.Nat.{ℕ, zero, suc, _+_, _-_, _≤_, _<_}
 use native.Mathlib.Omega.{arith}
-use lib.ListN.{length, getD}
-use Rattle.bases.specs.Letter.{basesOf}
-use Rattle.donors.specs.declared.build.Built.{Built}
-use Rattle.donors.specs.Build.{builtAfter, outAfter, Fits}
-use Rattle.donors.specs.Choice.{Choice, chosen?, Copy, Variant, cardRules}
-use Rattle.donors.specs.Rules.{edits}
-use Rattle.donors.specs.Table.{rowAt, variantOf, variantsIn, choiceOf, choicesFrom}
-use Rattle.donors.proofs.BuildLaws.{and-false, row-none}
-use Rattle.donors.proofs.StandLaws.{Stands, stands-start, stands-fits, stands-more, stands-space}
-use Rattle.donors.proofs.StretchLaws.{editsIn, donorIn, Buildable, edits-more, edits-past}
-use Rattle.donors.proofs.TableLaws.{taken-side}
+use lib.ListN.{getD}
+use Rattle.bases.specs.Pick.{pick}
+use Rattle.donors.specs.Choice.{Choice, Copy, cardRules}
+use Rattle.donors.specs.Donor.{Edit}
+use Rattle.donors.specs.Rules.{putIf, editOf, edits}
+use Rattle.donors.specs.Table.{rowAt, variantOf, variantsFrom, variantsIn, choiceOf, choicesFrom, roomAt?}
+use Rattle.donors.specs.Walk.{takesRow?, nextRow}
+use Rattle.donors.proofs.TableLaws.{row-takes}
 
-abbrev pub StandsAt : (reference text t φ : List ℕ) → Bool → Copy → (n a b i : ℕ) → Built → List ℕ → Type 0
-StandsAt reference text t φ j h n a b i built out =
-    Stands (basesOf reference) (donorIn reference text t φ j h n a b) b (editsIn reference text t φ j h i (n - i)) built out
+-- The edits that n rows from row i on make on copy h as entries of list j, whose text this is.
+abbrev pub editsIn : List ℕ → List ℕ → List ℕ → List ℕ → Bool → Copy → ℕ → ℕ → List Edit
+editsIn reference text t φ j h i n = edits cardRules j h (variantsIn reference text t i n) (choicesFrom φ i n)
 
-module _ {reference text t φ : List ℕ} {j : Bool} {h : Copy} {n a b space : ℕ} (q : Buildable reference text t φ j h n a b space) where
-  pub rows-start : (out : List ℕ) → space ≤ length out → StandsAt reference text t φ j h n a b 0 record { at = a; len = 0 } out
-  rows-start out l =
-      let z : n - 0 ≡ n = omega arith in
-      rw z (stands-start (basesOf reference) out a b (editsIn reference text t φ j h 0 n) (q .order) (q .chain) (q .ends) (omega (arith, q .room)))
+-- The edit of row i.
+abbrev pub editAt : List ℕ → List ℕ → List ℕ → List ℕ → Copy → ℕ → Edit
+editAt reference text t φ h i = editOf cardRules (variantOf reference text (rowAt t i)) (choiceOf (getD φ i 0)) h
 
-  -- of row i, where the rows before it are added
-  module _ (i : ℕ) (l : i < n) {built : Built} {out : List ℕ} (s : StandsAt reference text t φ j h n a b i built out) where
-    -- the entries of the rows behind it, and their choices
-    -- the entries of the rows behind it, and their choices
-    -- the entries of the rows behind it, and their choices
-    abbrev xs : List Variant
-    xs = variantsIn reference text t (i + 1) (n - (i + 1))
+module _ (reference text t φ : List ℕ) (j : Bool) (h : Copy) where
+  edits-first : (i m : ℕ) → editsIn reference text t φ j h i (suc m) ≡ putIf (takesRow? t φ j h i) (editAt reference text t φ h i) (editsIn reference text t φ j h (i + 1) m)
+  unfolding edits variantsIn choicesFrom
+  edits-first i m = rw (row-takes reference text (rowAt t i) (choiceOf (getD φ i 0)) j h)
 
-    abbrev cs : List Choice
-    cs = choicesFrom φ (i + 1) (n - (i + 1))
+  edits-more : (i n : ℕ) → i < n
+      → editsIn reference text t φ j h i (n - i) ≡ putIf (takesRow? t φ j h i) (editAt reference text t φ h i) (editsIn reference text t φ j h (i + 1) (n - (i + 1)))
+  edits-more i n l = let e : n - i ≡ suc (n - (i + 1)) = omega arith in rw e (edits-first i (n - (i + 1)))
 
-    stands : Stands (basesOf reference) (donorIn reference text t φ j h n a b) b (edits cardRules j h (variantOf reference text (rowAt t i) ∷ xs) (choiceOf (getD φ i 0) ∷ cs)) built out
-    stands = rw (edits-more reference text t φ j h i n l) at s
+  pub edits-taken : (i n : ℕ) → i < n → takesRow? t φ j h i ≡ true
+      → editsIn reference text t φ j h i (n - i) ≡ editAt reference text t φ h i ∷ editsIn reference text t φ j h (i + 1) (n - (i + 1))
+  edits-taken i n l e = edits-more i n l ∙ rw e
 
-    pub rows-fits : Fits reference text (rowAt t i) (choiceOf (getD φ i 0)) j h built (length out)
-    rows-fits = stands-fits reference text _ b (rowAt t i) (choiceOf (getD φ i 0)) j h xs cs built out stands (λ u. q .sound i l (taken-side _ _ _ u))
+  edits-skipped : (i n : ℕ) → i < n → takesRow? t φ j h i ≡ false → editsIn reference text t φ j h i (n - i) ≡ editsIn reference text t φ j h (i + 1) (n - (i + 1))
+  edits-skipped i n l e = edits-more i n l ∙ rw e
 
-    -- and it is added
-    module _ {built′ : Built} {out′ : List ℕ}
-        (e : built′ ≡ builtAfter reference text (rowAt t i) (choiceOf (getD φ i 0)) j h built)
-        (f : out′ ≡ outAfter reference text (rowAt t i) (choiceOf (getD φ i 0)) j h built out) where
-      pub rows-more : StandsAt reference text t φ j h n a b (i + 1) built′ out′
-      rows-more = rw (e, f) (stands-more reference text _ b (rowAt t i) (choiceOf (getD φ i 0)) j h xs cs built out stands)
+  pub edits-past : (i n : ℕ) → n ≤ i → editsIn reference text t φ j h i (n - i) ≡ []
+  unfolding edits variantsIn
+  edits-past i n l = let e : n - i ≡ 0 = omega arith in rw e
 
-      pub rows-grow : built .len ≤ built′ .len
-      rows-grow = rw e (omega arith)
+  edits-within : (m i n : ℕ) → n - i ≡ m → editsIn reference text t φ j h i (n - i) ≡ editsIn reference text t φ j h (nextRow t φ j h i m) (n - nextRow t φ j h i m)
+  unfolding nextRow
+  edits-within zero i n e = refl
+  edits-within (suc m) i n e = go (takesRow? t φ j h i) refl (nextRow t φ j h (i + 1) m) (edits-within m (i + 1) n (omega arith))
+    where
+      go : (b : Bool) → takesRow? t φ j h i ≡ b → (r : ℕ) → editsIn reference text t φ j h (i + 1) (n - (i + 1)) ≡ editsIn reference text t φ j h r (n - r)
+          → editsIn reference text t φ j h i (n - i) ≡ editsIn reference text t φ j h (pick b i r) (n - pick b i r)
+      go true f r w = refl
+      go false f r w = edits-skipped i n (omega arith) f ∙ w
 
-      pub rows-space : length out′ ≡ length out
-      rows-space = ap length f ∙ stands-space reference text _ b (rowAt t i) (choiceOf (getD φ i 0)) j h xs cs built out stands
+  pub edits-next : (i n : ℕ) → editsIn reference text t φ j h i (n - i) ≡ editsIn reference text t φ j h (nextRow t φ j h i (n - i)) (n - nextRow t φ j h i (n - i))
+  edits-next i n = edits-within (n - i) i n refl
 
-    pub rows-skip : chosen? (choiceOf (getD φ i 0)) ≡ false → StandsAt reference text t φ j h n a b (i + 1) built out
-    rows-skip e =
-        let none = row-none reference text (rowAt t i) (choiceOf (getD φ i 0)) j h built out (rw e (and-false (Bool·beq j (rowAt t i .first)))) in
-        rows-more (none .0) (none .1)
+pub edits-own : (reference first second t : List ℕ) (j : Bool) (h : Copy) (φ : List Choice) (i n : ℕ)
+    → edits cardRules j h (variantsFrom reference first second t i n) φ ≡ edits cardRules j h (variantsIn reference (pick j first second) t i n) φ
+unfolding edits variantsFrom variantsIn
+edits-own reference first second t j h φ i zero = refl
+edits-own reference first second t j h [] i (suc n) = refl
+edits-own reference first second t j h (c ∷ φ) i (suc n) =
+    rw (
+      edits-own reference first second t j h φ (i + 1) n,
+      row-takes reference (pick (rowAt t i .first) first second) (rowAt t i) c j h,
+      row-takes reference (pick j first second) (rowAt t i) c j h,
+    ) (go j (rowAt t i .first) (roomAt? (rowAt t i) c h))
+  where
+    es : List Edit
+    es = edits cardRules j h (variantsIn reference (pick j first second) t (i + 1) n) φ
 
-  pub rows-last : {i : ℕ} {built : Built} {out : List ℕ} → n ≤ i → StandsAt reference text t φ j h n a b i built out
-      → Stands (basesOf reference) (donorIn reference text t φ j h n a b) b [] built out
-  rows-last {i} l s = rw (edits-past reference text t φ j h i n l) at s
+    entry : Bool → Edit
+    entry b = editOf cardRules (variantOf reference (pick b first second) (rowAt t i)) c h
+
+    go : (j b r : Bool) → putIf (Bool·beq j b && r) (entry b) es ≡ putIf (Bool·beq j b && r) (entry j) es
+    go true true r = refl
+    go true false r = refl
+    go false true r = refl
+    go false false r = refl

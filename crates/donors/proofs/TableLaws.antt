@@ -1,24 +1,30 @@
 -- Laws of a table's rows and of choices as bytes.
---     choice-plus, choice-other, choice-minus   the choice that a byte writes
---     copy-zero, copy-one                       the copy of a number
+--     choice-plus, choice-other                 the choice that a byte writes
 --     side-first, side-second                   whether an entry is of a list
---     allele-puts                               the allele that a row gives for a copy is what its entry puts there
---     row-numbers, allele-numbers, place-fits   where in the table the numbers of that allele stand, and that they are of its row
+--     place-zero, place-one                     where in a row the numbers of the allele begin that a chosen entry puts on a copy
+--     place-fits                                these numbers are of that row
+--     allele-numbers                            the allele whose numbers begin there is what the row gives for a copy
+--     allele-room                               and its first number says whether a chosen entry takes its span
+--     allele-puts                               that allele is what the row's entry puts there
+--     row-takes                                 and the entry takes its span there exactly if the row does
+--     taken-chosen                              a row that takes its span is chosen
 --     taken-side                                an entry that takes its span for a list is of that list
 -- Assumes nothing.
 use mathlib.Core.Bool.{Bool, true, false, not, Bool·beq, _&&_}
 use mathlib.Core.List.{List}
-use mathlib.Core.Path.{_≡_, refl, sym, _∙_}
-use Prim.Native.Nat.{ℕ, _+_, _*_, _≤_}
-use native.Mathlib.Nat.{add-assoc}
+use mathlib.Core.Path.{_≡_, refl, sym, ap}
+use Prim.Native.Nat.{ℕ, _+_, _≤_}
 use native.Mathlib.Omega.{arith}
 use borrow.Author.Tests.{eq-eqb, ne-eqb}
 use lib.Dec.{T, eqb}
 use Rattle.bases.specs.Letter.{basesOf}
 use Rattle.bases.specs.Pick.{pick}
+use Rattle.bases.proofs.TestLaws.{of-true, of-false}
+use Rattle.donors.specs.declared.table.Allele.{Allele}
 use Rattle.donors.specs.declared.table.Row.{Row}
-use Rattle.donors.specs.Choice.{Choice, plus, minus, out, chosen?, Copy, copy0, copy1, puts}
-use Rattle.donors.specs.Table.{width, numberAt, alleleFrom, rowAt, alleleBytes, variantOf, choiceOf, copyOf, alleleOf, placeOf}
+use Rattle.donors.specs.Choice.{Choice, plus, minus, out, chosen?, source, Copy, copy0, copy1, puts, cardRules}
+use Rattle.donors.specs.Rules.{takes?}
+use Rattle.donors.specs.Table.{width, numberAt, hasRoom?, alleleAt, rowAt, alleleBytes, variantOf, choiceOf, copyOf, alleleFor, alleleOf, placeFor, placeOf, roomAt?, rowTakes?}
 
 pub choice-plus : (b : ℕ) → b ≡ 43 → choiceOf b ≡ plus
 choice-plus b e = rw (eq-eqb _ _ e)
@@ -30,39 +36,6 @@ choice-other b n = rw (ne-eqb _ _ n) (go (eqb b 45))
     go true = refl
     go false = refl
 
-pub choice-minus : (b : ℕ) → (b ≡ 43 → ⊥) → chosen? (choiceOf b) ≡ true → choiceOf b ≡ minus
-choice-minus b n t = rw (ne-eqb _ _ n, sym (choice-other b n) ∙ t)
-
-pub copy-zero : (n : ℕ) → n ≡ 0 → copyOf n ≡ copy0
-copy-zero n e = rw (eq-eqb _ _ e)
-
-pub copy-one : (n : ℕ) → (n ≡ 0 → ⊥) → copyOf n ≡ copy1
-copy-one n h = rw (ne-eqb _ _ h)
-
-pub allele-puts : (reference text : List ℕ) (r : Row) (c : Choice) (h : Copy) → T (chosen? c) → basesOf (alleleBytes reference text (alleleOf r c h)) ≡ puts (variantOf reference text r) c h
-allele-puts reference text r plus copy0 t = refl
-allele-puts reference text r plus copy1 t = refl
-allele-puts reference text r minus copy0 t = refl
-allele-puts reference text r minus copy1 t = refl
-allele-puts reference text r out h t = absurd t
-
-pub row-numbers : (t : List ℕ) (i k : ℕ) → alleleFrom t (i * width + k) ≡ record { text = eqb (numberAt t i k) 1; at = numberAt t i (k + 1); len = numberAt t i (k + 2) }
-row-numbers t i k = rw (add-assoc (i * width) k 1, add-assoc (i * width) k 2)
-
-pub allele-numbers : (t : List ℕ) (i : ℕ) (c : Choice) (h : Copy) → alleleFrom t (i * width + placeOf c h) ≡ alleleOf (rowAt t i) c h
-allele-numbers t i plus copy0 = row-numbers t i 3
-allele-numbers t i plus copy1 = row-numbers t i 6
-allele-numbers t i minus copy0 = row-numbers t i 6
-allele-numbers t i minus copy1 = row-numbers t i 3
-allele-numbers t i out h = row-numbers t i 3
-
-pub place-fits : (c : Choice) (h : Copy) → placeOf c h + 3 ≤ width
-place-fits plus copy0 = omega arith
-place-fits plus copy1 = omega arith
-place-fits minus copy0 = omega arith
-place-fits minus copy1 = omega arith
-place-fits out h = omega arith
-
 pub side-first : (t : Bool) → Bool·beq true t ≡ t
 side-first true = refl
 side-first false = refl
@@ -70,6 +43,66 @@ side-first false = refl
 pub side-second : (t : Bool) → Bool·beq false t ≡ not t
 side-second true = refl
 side-second false = refl
+
+pub place-zero : (b n : ℕ) → chosen? (choiceOf b) ≡ true → Bool·beq (eqb b 43) (eqb n 0) ≡ true → placeOf (choiceOf b) (copyOf n) ≡ 4
+place-zero b n = go (eqb b 43) (eqb b 45) (eqb n 0)
+  where
+    go : (s m z : Bool) → chosen? (pick s plus (pick m minus out)) ≡ true → Bool·beq s z ≡ true → placeOf (pick s plus (pick m minus out)) (pick z copy0 copy1) ≡ 4
+    go true m true c e = refl
+    go true m false c e = absurd (of-true e)
+    go false true true c e = absurd (of-true e)
+    go false true false c e = refl
+    go false false z c e = absurd (of-true c)
+
+pub place-one : (b n : ℕ) → chosen? (choiceOf b) ≡ true → Bool·beq (eqb b 43) (eqb n 0) ≡ false → placeOf (choiceOf b) (copyOf n) ≡ 7
+place-one b n = go (eqb b 43) (eqb b 45) (eqb n 0)
+  where
+    go : (s m z : Bool) → chosen? (pick s plus (pick m minus out)) ≡ true → Bool·beq s z ≡ false → placeOf (pick s plus (pick m minus out)) (pick z copy0 copy1) ≡ 7
+    go true m true c e = absurd (of-false e tt)
+    go true m false c e = refl
+    go false true true c e = refl
+    go false true false c e = absurd (of-false e tt)
+    go false false z c e = absurd (of-true c)
+
+place-for : (h : Copy) → placeFor h + 3 ≤ width
+place-for copy0 = omega arith
+place-for copy1 = omega arith
+
+pub place-fits : (c : Choice) (h : Copy) → placeOf c h + 3 ≤ width
+place-fits c h = place-for (source c h)
+
+allele-for : (t : List ℕ) (i : ℕ) (h : Copy) → alleleAt t i (placeFor h) ≡ alleleFor (rowAt t i) h
+allele-for t i copy0 = refl
+allele-for t i copy1 = refl
+
+pub allele-numbers : (t : List ℕ) (i : ℕ) (c : Choice) (h : Copy) → alleleAt t i (placeOf c h) ≡ alleleOf (rowAt t i) c h
+allele-numbers t i c h = allele-for t i (source c h)
+
+pub allele-room : (t : List ℕ) (i : ℕ) (c : Choice) (h : Copy) → chosen? c ≡ true → roomAt? (rowAt t i) c h ≡ hasRoom? (numberAt t i (placeOf c h))
+allele-room t i c h e = rw e (sym (ap (λ (a : Allele). a .room) (allele-numbers t i c h)))
+
+pub allele-puts : (reference text : List ℕ) (r : Row) (c : Choice) (h : Copy) → basesOf (alleleBytes reference text (alleleOf r c h)) ≡ puts (variantOf reference text r) c h
+allele-puts reference text r plus copy0 = refl
+allele-puts reference text r plus copy1 = refl
+allele-puts reference text r minus copy0 = refl
+allele-puts reference text r minus copy1 = refl
+allele-puts reference text r out copy0 = refl
+allele-puts reference text r out copy1 = refl
+
+pub row-takes : (reference text : List ℕ) (r : Row) (c : Choice) (j : Bool) (h : Copy) → takes? cardRules j h (variantOf reference text r) c ≡ rowTakes? r c j h
+row-takes reference text r plus j copy0 = refl
+row-takes reference text r plus j copy1 = refl
+row-takes reference text r minus j copy0 = refl
+row-takes reference text r minus j copy1 = refl
+row-takes reference text r out j h = refl
+
+pub taken-chosen : (r : Row) (c : Choice) (j : Bool) (h : Copy) → rowTakes? r c j h ≡ true → chosen? c ≡ true
+taken-chosen r c j h e = go (Bool·beq j (r .first)) (chosen? c) e
+  where
+    go : (s t : Bool) → s && (t && alleleOf r c h .room) ≡ true → t ≡ true
+    go s true e = refl
+    go true false e = e
+    go false false e = e
 
 pub taken-side : (j b t : Bool) → T (Bool·beq j b && t) → b ≡ j
 taken-side true true t h = refl

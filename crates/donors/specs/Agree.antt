@@ -2,30 +2,19 @@
 -- Assumes nothing: these are definitions.
 use mathlib.Core.Bool.{Bool}
 use mathlib.Core.List.{List}
-use Prim.Native.Nat.{ℕ, _+_, _-_, _*_, _≤_, _<_}
-use lib.ListN.{length}
+use Prim.Native.Nat.{ℕ, _≤_, _<_}
 use Rattle.bases.specs.Letter.{basesOf}
 use Rattle.bases.specs.Pick.{pick}
 use Rattle.bases.specs.Same.{same?}
 use Rattle.donors.specs.Apart.{Chain}
-use Rattle.donors.specs.Build.{Sound}
 use Rattle.donors.specs.Choice.{Copy, cardRules}
-use Rattle.donors.specs.Items.{Starts, Ends, over}
 use Rattle.donors.specs.Rules.{list1, list2, edits, donorOf}
-use Rattle.donors.specs.Table.{most, width, rowAt, variantsFrom, choicesFrom}
+use Rattle.donors.specs.Table.{most, rowAt, variantsFrom, choicesFrom, Sound}
 
--- The table has n entries, each sound, all of them between a and b on the reference, and two buffers have room for what the lists can make
--- of that stretch. This does not depend on the choices.
-pub record Ready (reference first second t : List ℕ) (n a b space1 space2 : ℕ) : Type 0 where
-  pub rows : n * width ≤ length t
+-- The table has n entries, each sound. This does not depend on the choices.
+pub record Ready (reference first second t : List ℕ) (n : ℕ) : Type 0 where
   pub few : n ≤ most
   pub sound : (i : ℕ) → i < n → Sound reference (pick (rowAt t i .first) first second) (rowAt t i)
-  pub order : a ≤ b
-  pub inside : b ≤ length reference
-  pub starts : Starts cardRules a (variantsFrom reference first second t 0 n)
-  pub ends : Ends cardRules b (variantsFrom reference first second t 0 n)
-  pub room1 : (b - a) + over cardRules (cardRules .grow) list1 (variantsFrom reference first second t 0 n) ≤ space1
-  pub room2 : (b - a) + over cardRules (cardRules .grow) list2 (variantsFrom reference first second t 0 n) ≤ space2
 
 -- On copy h no two chosen spans of a list overlap.
 abbrev pub ApartOn : (reference first second t φ : List ℕ) → Copy → ℕ → Type 0

@@ -4,9 +4,9 @@
 use mathlib.Core.Bool.{Bool, true, false, Bool·beq, _&&_}
 use mathlib.Core.List.{List, [], _∷_}
 use mathlib.Core.Logic.{_⊎_}
+use mathlib.Core.Path.{_≡_}
 use Prim.Native.Nat.{ℕ, _+_, _-_, _≤_, max, min}
 use native.Mathlib.Omega.{arith}
-use lib.Dec.{T}
 use lib.ListN.{length}
 use Rattle.donors.specs.Rules.{Rules, putIf}
 
@@ -18,18 +18,32 @@ pub data Choice : Type 0 where
 pub data Copy : Type 0 where
   copy0 copy1 : Copy
 
--- An entry as matching reads it: its list, where REF starts, how long REF is, and the alleles for copies 0 and 1.
+-- An entry as matching reads it, and all that matching reads of it: its list, where REF starts, how long REF is, its weight, and the
+-- alleles for copies 0 and 1, each with whether it takes the entry's span.
 pub record Variant : Type 0 where
   pub side : Bool
   pub start : ℕ
   pub len : ℕ
+  pub weight : ℕ
+  pub room0 : Bool
   pub allele0 : List ℕ
+  pub room1 : Bool
   pub allele1 : List ℕ
 
--- The allele for a copy, as written.
+-- An entry as document 01 has it: each of its alleles takes its span, and it counts 1.
+pub record Plain (x : Variant) : Type 0 where
+  pub room0 : x .room0 ≡ true
+  pub room1 : x .room1 ≡ true
+  pub weight : x .weight ≡ 1
+
+-- The allele for a copy, as written, and whether it takes the span.
 abbrev pub written : Variant → Copy → List ℕ
 written x copy0 = x .allele0
 written x copy1 = x .allele1
+
+abbrev pub roomFor : Variant → Copy → Bool
+roomFor x copy0 = x .room0
+roomFor x copy1 = x .room1
 
 -- The other copy.
 abbrev pub other : Copy → Copy
@@ -42,11 +56,19 @@ chosen? plus = true
 chosen? minus = true
 chosen? out = false
 
--- What an entry puts on a copy.
+-- Which allele a choice puts on a copy: `+` that copy's own, `-` the other copy's.
+abbrev pub source : Choice → Copy → Copy
+source plus h = h
+source minus h = other h
+source out h = h
+
+-- What an entry puts on a copy, where it takes its span there.
 abbrev pub puts : Variant → Choice → Copy → List ℕ
-puts x plus h = written x h
-puts x minus h = written x (other h)
-puts x out h = []
+puts x c h = written x (source c h)
+
+-- It takes its span there: it is chosen, and that allele takes it.
+abbrev pub takesSpan? : Variant → Choice → Copy → Bool
+takesSpan? x c h = chosen? c && roomFor x (source c h)
 
 -- Document 01's max(0, length of REF minus length of the shorter copy allele).
 abbrev pub shrinks : Variant → ℕ
@@ -57,33 +79,27 @@ abbrev pub grows : Variant → ℕ
 grows x = max (length (x .allele0)) (length (x .allele1)) - x .len
 
 -- The two bounds hold of every allele that an entry puts.
-pub puts-low : (x : Variant) (c : Choice) (h : Copy) → T (chosen? c) → x .len ≤ length (puts x c h) + shrinks x
-puts-low x plus copy0 t = omega arith
-puts-low x plus copy1 t = omega arith
-puts-low x minus copy0 t = omega arith
-puts-low x minus copy1 t = omega arith
-puts-low x out h t = absurd t
+pub written-low : (x : Variant) (h : Copy) → x .len ≤ length (written x h) + shrinks x
+written-low x copy0 = omega arith
+written-low x copy1 = omega arith
 
-pub puts-high : (x : Variant) (c : Choice) (h : Copy) → T (chosen? c) → length (puts x c h) ≤ x .len + grows x
-puts-high x plus copy0 t = omega arith
-puts-high x plus copy1 t = omega arith
-puts-high x minus copy0 t = omega arith
-puts-high x minus copy1 t = omega arith
-puts-high x out h t = absurd t
+pub written-high : (x : Variant) (h : Copy) → length (written x h) ≤ x .len + grows x
+written-high x copy0 = omega arith
+written-high x copy1 = omega arith
 
--- The card's rules: every choice is allowed, and a chosen entry takes its span on both copies.
+-- The card's rules, read off the entry: every choice is allowed, and a chosen entry takes its span where its allele does.
 abbrev pub cardRules : Rules Variant Choice Copy
 cardRules = record {
   side = λ x. x .side;
   start = λ x. x .start;
   len = λ x. x .len;
   ok = λ x c. true;
-  room = λ x c h. chosen? c;
+  room = takesSpan?;
   allele = puts;
   shrink = shrinks;
   grow = grows;
-  low = puts-low;
-  high = puts-high;
+  low = λ x c h t. written-low x (source c h);
+  high = λ x c h t. written-high x (source c h);
 }
 
 -- The chosen entries of list j.

@@ -1,8 +1,8 @@
 pub mod Agree
 pub mod Apart
-pub mod Build
 pub mod Choice
 pub mod Donor
 pub mod Items
 pub mod Rules
 pub mod Table
+pub mod Walk

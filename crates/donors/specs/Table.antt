@@ -1,19 +1,21 @@
--- A table of entries, as numbers: nine a row. A row says the entry's list (1 or 2), where REF starts, how long REF is, and for copies 0 and
--- 1 where the bytes of the allele stand: in the text of its list or in the reference, from where on, and how many.
+-- A table of entries, as numbers: ten a row. A row says the entry's list (1 or 2), where REF starts, how long REF is, its weight, and for
+-- copies 0 and 1 the allele: one number that says whether it takes the entry's span and whether its bytes stand in the text of its list or
+-- in the reference, from where on, and how many.
 -- Assumes nothing: these are definitions.
+use mathlib.Core.Bool.{Bool, Bool·beq, _&&_, _||_}
 use mathlib.Core.List.{List, [], _∷_}
-use Prim.Native.Nat.{ℕ, zero, suc, _+_, _*_}
-use lib.Dec.{eqb}
-use lib.ListN.{getD, take, drop}
+use Prim.Native.Nat.{ℕ, zero, suc, _+_, _*_, _≤_}
+use lib.Dec.{eqb, leb}
+use lib.ListN.{length, getD, take, drop}
 use Rattle.bases.specs.Letter.{basesOf}
 use Rattle.bases.specs.Pick.{pick}
 use Rattle.donors.specs.declared.table.Allele.{Allele}
 use Rattle.donors.specs.declared.table.Row.{Row}
-use Rattle.donors.specs.Choice.{Choice, plus, minus, out, Copy, copy0, copy1, Variant}
+use Rattle.donors.specs.Choice.{Choice, plus, minus, out, Copy, copy0, copy1, Variant, chosen?, source}
 
 -- How many numbers a row has.
 abbrev pub width : ℕ
-width = 9
+width = 10
 
 -- The most entries that a table has: the choices of a cluster are twelve values at most.
 abbrev pub most : ℕ
@@ -23,9 +25,21 @@ most = 12
 abbrev pub numberAt : List ℕ → ℕ → ℕ → ℕ
 numberAt t i k = getD t (i * width + k) 0
 
--- The allele whose three numbers stand from place k of a table on.
-abbrev pub alleleFrom : List ℕ → ℕ → Allele
-alleleFrom t k = record { text = eqb (getD t k 0) 1; at = getD t (k + 1) 0; len = getD t (k + 2) 0 }
+-- What the first number of an allele says: 2 and 3, it takes the entry's span; 1 and 3, its bytes stand in the text.
+abbrev pub hasRoom? : ℕ → Bool
+hasRoom? k = leb 2 k
+
+abbrev pub inText? : ℕ → Bool
+inText? k = eqb k 1 || eqb k 3
+
+-- The allele whose three numbers stand from number k of row i on.
+abbrev pub alleleAt : List ℕ → ℕ → ℕ → Allele
+alleleAt t i k = record {
+  room = hasRoom? (numberAt t i k);
+  text = inText? (numberAt t i k);
+  at = numberAt t i (k + 1);
+  len = numberAt t i (k + 2);
+}
 
 -- Row i of a table.
 abbrev pub rowAt : List ℕ → ℕ → Row
@@ -33,8 +47,9 @@ rowAt t i = record {
   first = eqb (numberAt t i 0) 1;
   start = numberAt t i 1;
   len = numberAt t i 2;
-  copy0 = record { text = eqb (numberAt t i 3) 1; at = numberAt t i 4; len = numberAt t i 5 };
-  copy1 = record { text = eqb (numberAt t i 6) 1; at = numberAt t i 7; len = numberAt t i 8 };
+  weight = numberAt t i 3;
+  copy0 = alleleAt t i 4;
+  copy1 = alleleAt t i 7;
 }
 
 -- The bytes of an allele.
@@ -47,7 +62,10 @@ variantOf reference text r = record {
   side = r .first;
   start = r .start;
   len = r .len;
+  weight = r .weight;
+  room0 = r .copy0 .room;
   allele0 = basesOf (alleleBytes reference text (r .copy0));
+  room1 = r .copy1 .room;
   allele1 = basesOf (alleleBytes reference text (r .copy1));
 }
 
@@ -75,18 +93,33 @@ choicesFrom φ i (suc n) = choiceOf (getD φ i 0) ∷ choicesFrom φ (i + 1) n
 abbrev pub copyOf : ℕ → Copy
 copyOf n = pick (eqb n 0) copy0 copy1
 
--- The allele that a chosen entry puts on a copy.
-abbrev pub alleleOf : Row → Choice → Copy → Allele
-alleleOf r plus copy0 = r .copy0
-alleleOf r plus copy1 = r .copy1
-alleleOf r minus copy0 = r .copy1
-alleleOf r minus copy1 = r .copy0
-alleleOf r out h = r .copy0
+-- The allele of a row for a copy, as written, and where in the row its numbers begin.
+abbrev pub alleleFor : Row → Copy → Allele
+alleleFor r copy0 = r .copy0
+alleleFor r copy1 = r .copy1
 
--- Where in its row the numbers of that allele begin.
+abbrev pub placeFor : Copy → ℕ
+placeFor copy0 = 4
+placeFor copy1 = 7
+
+-- The allele that a chosen entry puts on a copy, and where in its row the numbers of that allele begin.
+abbrev pub alleleOf : Row → Choice → Copy → Allele
+alleleOf r c h = alleleFor r (source c h)
+
 abbrev pub placeOf : Choice → Copy → ℕ
-placeOf plus copy0 = 3
-placeOf plus copy1 = 6
-placeOf minus copy0 = 6
-placeOf minus copy1 = 3
-placeOf out h = 3
+placeOf c h = placeFor (source c h)
+
+-- The entry of a row takes its span on a copy; and for the donor of list j.
+abbrev pub roomAt? : Row → Choice → Copy → Bool
+roomAt? r c h = chosen? c && alleleOf r c h .room
+
+abbrev pub rowTakes? : Row → Choice → Bool → Copy → Bool
+rowTakes? r c j h = Bool·beq j (r .first) && roomAt? r c h
+
+-- A row's span lies on the reference, and its alleles, none of which is empty, in its list's text or on the reference.
+pub record Sound (reference text : List ℕ) (r : Row) : Type 0 where
+  pub span : r .start + r .len ≤ length reference
+  pub zero : r .copy0 .at + r .copy0 .len ≤ length (pick (r .copy0 .text) text reference)
+  pub one : r .copy1 .at + r .copy1 .len ≤ length (pick (r .copy1 .text) text reference)
+  pub some0 : 1 ≤ r .copy0 .len
+  pub some1 : 1 ≤ r .copy1 .len

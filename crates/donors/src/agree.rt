@@ -1,19 +1,21 @@
-// Are the donors of the two lists equal on a copy? Only the stretch of the reference where the entries lie is built and compared.
+// Are the donors of the two lists equal on a copy? Both are walked along side by side, piece against piece, and neither is built.
 ghost use mathlib.Core.Path.{_≡_};
 ghost use Prim.Native.Nat.{_+_, _≤_, min};
 ghost use lib.ListN.{length};
 ghost use Rattle.bases.specs.Letter.{basesOf};
-ghost use Rattle.bases.specs.Put.{put};
+ghost use Rattle.bases.specs.Pick.{pick};
 ghost use Rattle.bases.specs.Same.{agree?};
+ghost use Rattle.bases.specs.Stretch.{stretch};
 ghost use Rattle.donors.specs.Agree.{Ready, ApartOn, oneDonor?};
-ghost use Rattle.donors.specs.Donor.{part};
 ghost use Rattle.donors.specs.Table.{copyOf};
-use crate::build::Built;
-use crate::build::add_row;
 use crate::table::MOST;
-use crate::table::is_chosen;
-use bases::put::put_bytes;
-use bases::same::agree;
+use crate::table::TABLE;
+use crate::walk::Along;
+use crate::walk::past;
+use crate::walk::with_piece;
+use bases::stretch::part_agrees;
+use bases::stretch::parts_agree;
+use bases::stretch::stretches_agree;
 
 // The smaller of two lengths.
 fn shorter(a: usize, b: usize) -> usize
@@ -25,87 +27,77 @@ fn shorter(a: usize, b: usize) -> usize
     b
 }
 
-// Adds the rest to a donor, the reference up to place `to`, and says how long it then is. Nothing else of `out` changes.
-fn add_rest(reference: &[u8], built: Built, to: usize, out: &mut [u8]) -> usize
+// Are the next m bases of a piece of list 1's donor those of a piece of list 2's?
+fn pieces_agree(reference: &[u8], first: &[u8], second: &[u8], a: Along, b: Along, m: usize) -> bool
     requires { ⌜
-        (built .at ≤ to)
-        × (to ≤ length (now reference))
-        × (built .len + length (part (now reference) (built .at) to) ≤ length (now out))
+        (a .at + m ≤ length (pick (a .text) (now first) (now reference)))
+        × (b .at + m ≤ length (pick (b .text) (now second) (now reference)))
         ⌝ }
     ensures { λ r. ⌜
-        (r ≡ built .len + length (part (now (reference .entry)) (built .at) to))
-        × (now (out .exit) ≡ put (now (out .entry)) (built .len) (part (now (reference .entry)) (built .at) to))
+        r ≡ agree? (stretch (basesOf (pick (a .text) (now (first .entry)) (now (reference .entry)))) (a .at) m)
+        (stretch (basesOf (pick (b .text) (now (second .entry)) (now (reference .entry)))) (b .at) m)
         ⌝ }
 {
-    let at = built.at;
-    put_bytes(&reference[at..to], out, built.len)
+    if a.text {
+        if b.text {
+            return parts_agree(first, a.at, second, b.at, m);
+        }
+        return part_agrees(reference, b.at, first, a.at, m);
+    }
+    if b.text {
+        return part_agrees(reference, a.at, second, b.at, m);
+    }
+    stretches_agree(reference, a.at, b.at, m)
 }
 
-// Do the first x bases of one and the first y of another agree behind place `seen`, as far as both go?
-fn agree_behind(one: &[u8], x: usize, two: &[u8], y: usize, seen: usize) -> bool
-    requires { ⌜
-        (seen ≤ x)
-        × (x ≤ length (now one))
-        × (seen ≤ y)
-        × (y ≤ length (now two))
-        ⌝ }
-    ensures { λ r. ⌜ r ≡ agree? (basesOf (part (now (one .entry)) seen x)) (basesOf (part (now (two .entry)) seen y)) ⌝ }
-{
-    agree(&one[seen..x], &two[seen..y])
-}
-
-// Are the donors of the two lists on a copy equal, with the first n entries of the table and their choices? All entries lie between places
-// `from` and `to` of the reference. The two are built side by side, and the first bases that differ end it. `mine` and `other` are room to
-// build in: what is left there is not told.
+// Are the donors of the two lists on a copy equal, with the first n entries of the table and their choices? The first two bases that differ
+// end the walk. Where neither list has an entry left, what is left of the reference is the same exactly if both walks stand at one place.
 pub fn donors_agree(
     reference: &[u8],
     first: &[u8],
     second: &[u8],
-    table: &[usize],
+    table: &[u32; TABLE],
     n: usize,
-    choices: [u8; MOST],
+    choices: &[u8; MOST],
     copy: usize,
-    from: usize,
-    to: usize,
-    mine: &mut [u8],
-    other: &mut [u8],
 ) -> bool
     requires { ⌜
-        Ready (now reference) (now first) (now second) (now table) n from to (length (now mine)) (length (now other))
-        × ApartOn (now reference) (now first) (now second) (now table) choices (copyOf copy) n
+        Ready (now reference) (now first) (now second) (now table) n
+        × ApartOn (now reference) (now first) (now second) (now table) (now choices) (copyOf copy) n
         ⌝ }
     ensures { λ r. ⌜
-        r ≡ oneDonor? (now (reference .entry)) (now (first .entry)) (now (second .entry)) (now (table .entry)) choices (copyOf copy) n
+        r ≡ oneDonor? (now (reference .entry)) (now (first .entry)) (now (second .entry)) (now (table .entry)) (now (choices .entry))
+        (copyOf copy) n
         ⌝ }
 {
-    let mut a = Built { at: from, len: 0 };
-    let mut b = Built { at: from, len: 0 };
-    let mut i: usize = 0;
-    while i < n {
-        if !is_chosen(choices[i]) {
-            i += 1;
-            continue;
+    let mut a = Along {
+        row: 0,
+        place: 0,
+        text: false,
+        at: 0,
+        len: 0,
+    };
+    let mut b = Along {
+        row: 0,
+        place: 0,
+        text: false,
+        at: 0,
+        len: 0,
+    };
+    loop {
+        let x = with_piece(reference.len(), table, n, choices, true, copy, a);
+        let y = with_piece(reference.len(), table, n, choices, false, copy, b);
+        if (n < x.row) & (n < y.row) {
+            return x.at == y.at;
         }
-        let seen = shorter(a.len, b.len);
-        a = add_row(reference, first, table, i, choices[i], true, copy, a, mine);
-        b = add_row(
-            reference,
-            second,
-            table,
-            i,
-            choices[i],
-            false,
-            copy,
-            b,
-            other,
-        );
-        if !agree_behind(mine, a.len, other, b.len, seen) {
+        let m = shorter(x.len, y.len);
+        if m == 0 {
             return false;
         }
-        i += 1;
+        if !pieces_agree(reference, first, second, x, y, m) {
+            return false;
+        }
+        a = past(x, m);
+        b = past(y, m);
     }
-    let seen = shorter(a.len, b.len);
-    let x = add_rest(reference, a, to, mine);
-    let y = add_rest(reference, b, to, other);
-    (x == y) & agree_behind(mine, x, other, y, seen)
 }

@@ -1,5 +1,5 @@
-// The donor of a list on a copy, built from a table of entries and their choices, and whether the donors of the two lists are equal.
-// The contracts cite specs/.
+// Whether the donors of the two lists are equal on a copy, for a table of entries and their choices: both are walked along side by side,
+// and neither is built. The contracts cite specs/.
 pub mod agree;
-pub mod build;
 pub mod table;
+pub mod walk;

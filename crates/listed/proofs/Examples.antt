@@ -1,6 +1,6 @@
 -- Document 01's examples of clusters, as the plan computes them: 1, 6, 7 and 8, in one table; and the records of five entries.
 -- Assumes nothing.
-use mathlib.Core.Bool.{Bool}
+use mathlib.Core.Bool.{Bool, true}
 use mathlib.Core.List.{List, [], _∷_}
 use mathlib.Core.Path.{_≡_, refl}
 use Prim.Native.Nat.{ℕ, _+_}
@@ -34,7 +34,7 @@ T = 84
 
 -- An entry with one ALT, 1/1.
 abbrev hom : Bool → ℕ → List ℕ → List ℕ → Variant
-hom j pos ref alt = record { side = j; start = placeOf (record { 0 = pos }) .0; len = length ref; allele0 = alt; allele1 = alt }
+hom j pos ref alt = record { side = j; start = placeOf (record { 0 = pos }) .0; len = length ref; weight = 1; room0 = true; allele0 = alt; room1 = true; allele1 = alt }
 
 -- A row: the reference, the entries of the two lists, and the plan.
 pub record Row : Type 0 where

@@ -2,7 +2,7 @@
 -- the contract as src/ states it.
 -- Assumes nothing.
 use mathlib.Core.List.{List}
-use mathlib.Core.Path.{sym, _∙_}
+use mathlib.Core.Path.{refl, sym, _∙_}
 use Prim.Native.Nat.{ℕ}
 use denote.Ref.{now}
 use Rattle.bases.proofs.Determines.{OneResult, OneLeft}
@@ -28,11 +28,11 @@ count-all-determines κs a z z′ e e′ p q = p ∙ sym q
 pub count-lists-determines : OneResult 3 count-lists-kinds.ps count-lists-kinds.r count-lists.Post
 count-lists-determines κs a z z′ e e′ p q = p ∙ sym q
 
-pub put-rows-determines : OneResult 4 put-rows-kinds.ps put-rows-kinds.r put-rows.Post
-put-rows-determines κs a z z′ e e′ p q = p .0 ∙ sym (q .0)
+pub put-rows-determines : OneResult 3 put-rows-kinds.ps put-rows-kinds.r put-rows.Post
+put-rows-determines κs a z z′ e e′ p q = refl
 
-pub put-rows-leaves : OneLeft 4 put-rows-kinds.ps put-rows-kinds.r put-rows.Post (List ℕ) (λ κs e. now (e .1 .1 .1 .1 .1 .0))
-put-rows-leaves κs a z z′ e e′ p q = p .1 ∙ sym (q .1)
+pub put-rows-leaves : OneLeft 3 put-rows-kinds.ps put-rows-kinds.r put-rows.Post (List ℕ) (λ κs e. now (e .1 .1 .1 .1 .0))
+put-rows-leaves κs a z z′ e e′ p q = p ∙ sym q
 
 pub mark-every-determines : OneResult 4 mark-every-kinds.ps mark-every-kinds.r mark-every.Post
 mark-every-determines κs a z z′ e e′ p q = p .0 ∙ sym (q .0)

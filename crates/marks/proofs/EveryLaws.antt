@@ -25,7 +25,7 @@ use Rattle.clusters.specs.Heads.{itemsFrom, done?, variantsFrom, firstCount, fo
 use Rattle.marks.specs.Markable.{Markable}
 use Rattle.marks.specs.Marks.{marksOf, scoreOf, markedOf, clustersFrom, allMarks, totalScore}
 use Rattle.clusters.proofs.FirstLaws.{first-take}
-use Rattle.marks.proofs.MarkLaws.{marks-length, score-few, next-long}
+use Rattle.marks.proofs.MarkLaws.{marks-length, score-few, next-long, next-plain}
 use Rattle.clusters.proofs.NextLaws.{count-some, count-le, found-left, ready-found, next-done, next-plan}
 
 module _ (reference first second : List ℕ) (h : Heads) where
@@ -57,8 +57,8 @@ module _ (reference first second : List ℕ) (h : Heads) where
   unfolding join
   marks-next d = ap (allMarks reference) (next-cluster d)
 
-pub record Marking (reference first second m0 : List ℕ) (h0 : Heads) (m : List ℕ) (h : Heads) (i total table space1 space2 : ℕ) : Type 0 where
-  pub markable : Markable reference first second h table space1 space2
+pub record Marking (reference first second m0 : List ℕ) (h0 : Heads) (m : List ℕ) (h : Heads) (i total : ℕ) : Type 0 where
+  pub markable : Markable reference first second h
   pub fits : i + length (itemsFrom first second h) ≤ length m
   pub low : total ≤ i
   pub space : length m ≡ length m0
@@ -66,20 +66,20 @@ pub record Marking (reference first second m0 : List ℕ) (h0 : Heads) (m : List
   pub marks : put m i (allMarks reference (clustersFrom reference first second h)) ≡ put m0 0 (allMarks reference (clustersFrom reference first second h0))
 
 module _ (reference first second : List ℕ) where
-  pub marking-start : (m : List ℕ) (h : Heads) (table space1 space2 : ℕ) → Markable reference first second h table space1 space2 → length (itemsFrom first second h) ≤ length m
-      → Marking reference first second m h m h 0 0 table space1 space2
-  marking-start m h table space1 space2 k l = record { markable = k; fits = omega arith; low = omega arith; space = refl; score = omega arith; marks = refl }
+  pub marking-start : (m : List ℕ) (h : Heads) → Markable reference first second h → length (itemsFrom first second h) ≤ length m
+      → Marking reference first second m h m h 0 0
+  marking-start m h k l = record { markable = k; fits = omega arith; low = omega arith; space = refl; score = omega arith; marks = refl }
 
-  module _ (m0 : List ℕ) (h0 : Heads) (m : List ℕ) (h : Heads) (i total table space1 space2 : ℕ) (w : Marking reference first second m0 h0 m h i total table space1 space2) where
+  module _ (m0 : List ℕ) (h0 : Heads) (m : List ℕ) (h : Heads) (i total : ℕ) (w : Marking reference first second m0 h0 m h i total) where
     pub marking-last : done? first second h ≡ true
         → (total ≡ totalScore reference (clustersFrom reference first second h0)) × (m ≡ put m0 0 (allMarks reference (clustersFrom reference first second h0)))
     marking-last d = (omega (arith, w .score, score-done reference first second h d), sym (put-none m i) ∙ rw (marks-done reference first second h d) at (w .marks))
 
-    pub marking-more : done? first second h ≡ false → (f : Found) (k : Marked) (m′ : List ℕ) → f ≡ foundAt reference first second h
+    pub marking-more : done? first second h ≡ false → {f : Found} {k : Marked} {m′ : List ℕ} → f ≡ foundAt reference first second h
         → k ≡ markedOf reference (take (f .count) (variantsFrom reference first second h)) → m′ ≡ put m i (marksOf reference (take (f .count) (variantsFrom reference first second h)))
-        → Marking reference first second m0 h0 m′ (f .heads) (i + f .count) (total + k .score) table space1 space2
+        → Marking reference first second m0 h0 m′ (f .heads) (i + f .count) (total + k .score)
         × (length (itemsFrom first second (f .heads)) < length (itemsFrom first second h))
-    marking-more d f k m′ ef ek em =
+    marking-more d {f} {k} {m′} ef ek em =
         let n = firstCount reference first second h in
         let c = cluster reference first second h in
         let le = count-le reference first second h d in
@@ -96,9 +96,9 @@ module _ (reference first second : List ℕ) where
         let same = put-length m i inside (marksOf reference c) (omega (arith, w .fits)) in
         rw (fn, fh, ks, ms) (
           record {
-            markable = record { ready = ready-found reference first second h d (z .ready); short = z .short; rows = z .rows; room1 = z .room1; room2 = z .room2 };
+            markable = record { ready = ready-found reference first second h d (z .ready); short = z .short };
             fits = omega (arith, w .fits);
-            low = omega (arith, w .low, score-few reference c, next-long reference first second h n le);
+            low = omega (arith, w .low, score-few reference c (next-plain reference first second h n le), next-long reference first second h n le);
             space = same ∙ w .space;
             score = omega (arith, w .score, score-next reference first second h d);
             marks = rw (q, put-put m i inside (marksOf reference c) (allMarks reference (behind reference first second h))) (rw (marks-next reference first second h d) at (w .marks));

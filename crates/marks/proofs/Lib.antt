@@ -7,5 +7,5 @@ pub mod FillLaws
 pub mod MarkLaws
 pub mod RowLaws
 pub mod SkipLaws
-pub mod StretchLaws
+pub mod TableLaws
 pub mod TakeLaws

@@ -1,14 +1,15 @@
 -- Laws of a cluster's marks.
 --     best-long                   the best pair has one choice an entry
---     marks-length, score-few     one mark an entry; no more entries are chosen than there are
+--     marks-length, score-few     one mark an entry; no more entries are chosen than there are, where each counts 1
 --     marks-many, marks-few       the marks and what is told of a cluster that is undecided, and of one that is decided
---     next-long, next-ready       the next n entries: there are n, and the search may read their table
+--     next-long, next-plain       the next n entries: there are n, each of which counts 1
+--     next-small, next-ready      their numbers fit into a table, and the search may read that
 --     next-undecided, next-decided
 --                                 they are marked as a cluster, in the form that the code has: e is what the marks d became
 -- Assumes nothing.
 use mathlib.Core.Bool.{Bool, true, false}
 use mathlib.Core.List.{List, [], _∷_, map}
-use mathlib.Core.Path.{_≡_, refl, sym, ap, _∙_, subst}
+use mathlib.Core.Path.{_≡_, refl, sym, ap, _∙_}
 use Prim.Native.Nat.{ℕ, _≤_, _<_}
 use native.Mathlib.Omega.{arith}
 use borrow.Author.Tests.{le-leb, lt-leb}
@@ -18,9 +19,11 @@ use Rattle.bases.specs.Letter.{basesOf}
 use Rattle.bases.specs.Pick.{pick}
 use Rattle.bases.specs.Put.{put}
 use Rattle.donors.specs.Agree as agree
-use Rattle.donors.specs.Choice.{Choice, plus, minus, out, Variant, cardRules}
+use Rattle.donors.specs.declared.table.Row.{Row}
+use Rattle.donors.specs.Apart.{All}
+use Rattle.donors.specs.Choice.{Choice, plus, minus, out, Variant, Plain, cardRules}
 use Rattle.donors.specs.Table as table
-use Rattle.donors.specs.Table.{most}
+use Rattle.donors.specs.Table.{most, Sound}
 use Rattle.matching.specs.declared.answer.Best.{Best}
 use Rattle.matching.specs.Answer.{byteOf, arrayOf}
 use Rattle.matching.specs.Best.{score}
@@ -29,30 +32,30 @@ use Rattle.matching.specs.Made.{bestAnswer}
 use Rattle.matching.proofs.BestOfLaws.{best-there}
 use Rattle.clusters.specs.declared.heads.Heads.{Heads}
 use Rattle.clusters.specs.declared.item.Item.{Item}
-use Rattle.marks.specs.declared.row.Stretch.{Stretch}
 use Rattle.clusters.specs.Heads.{Ready, entriesAt, itemsFrom, variantsFrom}
 use Rattle.clusters.specs.Item.{variant}
 use Rattle.marks.specs.Markable.{Markable}
 use Rattle.marks.specs.Marks.{QUESTION, decided?, marksOf, scoreOf, markedOf}
-use Rattle.marks.specs.Row.{tableOf, stretchOf}
-use Rattle.clusters.proofs.CardClusters.{SoundItem, items-sound, map-length}
-use Rattle.marks.proofs.RowLaws.{table-variants}
-use Rattle.marks.proofs.StretchLaws.{search-ready}
+use Rattle.marks.specs.Row.{SmallEntry, tableOf}
+use Rattle.clusters.proofs.CardClusters.{SoundItem, items-sound, variants-plain, map-length}
+use Rattle.clusters.proofs.MergedLaws.{all-each}
+use Rattle.marks.proofs.RowLaws.{row-sound, row-small}
+use Rattle.marks.proofs.TableLaws.{table-variants, table-row}
 use Rattle.marks.proofs.TakeLaws.{take-map, all-take}
 
 pub best-long : (R : List ℕ) (xs : List Variant) → length (cardBest R xs) ≡ length xs
 best-long R xs = best-there cardRules cardScoring R xs cardFinite .legal .long
 
-counts-few : (c : Choice) → counts c ≤ 1
-counts-few plus = omega arith
-counts-few minus = omega arith
-counts-few out = omega arith
+counts-few : (x : Variant) (c : Choice) → x .weight ≡ 1 → counts x c ≤ 1
+counts-few x plus e = omega arith
+counts-few x minus e = omega arith
+counts-few x out e = omega arith
 
-chosen-few : (xs : List Variant) (φ : List Choice) → score cardScoring xs φ ≤ length xs
+chosen-few : (xs : List Variant) (φ : List Choice) → All Plain xs → score cardScoring xs φ ≤ length xs
 unfolding score
-chosen-few [] φ = omega arith
-chosen-few (x ∷ xs) [] = omega arith
-chosen-few (x ∷ xs) (c ∷ φ) = omega (arith, counts-few c, chosen-few xs φ)
+chosen-few [] φ a = omega arith
+chosen-few (x ∷ xs) [] a = omega arith
+chosen-few (x ∷ xs) (c ∷ φ) a = omega (arith, counts-few x c (a .0 .weight), chosen-few xs φ (a .1))
 
 module _ (reference : List ℕ) (c : List Variant) where
   pub marks-length : length (marksOf reference c) ≡ length c
@@ -62,11 +65,11 @@ module _ (reference : List ℕ) (c : List Variant) where
       go true = map-length byteOf (cardBest (basesOf reference) c) ∙ best-long (basesOf reference) c
       go false = length-replicate (length c) QUESTION
 
-  pub score-few : scoreOf reference c ≤ length c
-  score-few = go (decided? c)
+  pub score-few : All Plain c → scoreOf reference c ≤ length c
+  score-few a = go (decided? c)
     where
       go : (t : Bool) → pick t (score cardScoring c (cardBest (basesOf reference) c)) 0 ≤ length c
-      go true = chosen-few c (cardBest (basesOf reference) c)
+      go true = chosen-few c (cardBest (basesOf reference) c) a
       go false = omega arith
 
   pub marks-many : most < length c
@@ -93,16 +96,26 @@ module _ (reference first second : List ℕ) (h : Heads) (n : ℕ) (there : n �
   pub next-long : length (take n (variantsFrom reference first second h)) ≡ n
   next-long = length-take-le n (variantsFrom reference first second h) (omega (arith, map-length (variant reference first second) (itemsFrom first second h)))
 
-  pub next-ready : (t : List ℕ) (space1 space2 : ℕ) → Markable reference first second h (length t) space1 space2 → 1 ≤ n → n ≤ most → (u : List ℕ) (s : Stretch)
-      → s ≡ stretchOf reference (take n (itemsFrom first second h)) → u ≡ put t 0 (tableOf (take n (itemsFrom first second h)))
-      → agree.Ready reference first second u n (s .from) (s .to) space1 space2
-  next-ready t space1 space2 m some few u s es eu =
-      let e = length-take-le n (itemsFrom first second h) there in
-      let all = items-sound reference first second (entriesAt first (h .at1)) (entriesAt second (h .at2)) (m .ready .ready1 .sound) (m .ready .ready2 .sound) in
-      let a = all-take (SoundItem reference first second) n (itemsFrom first second h) all in
-      rw (es, eu)
-      (subst (λ (k : ℕ). agree.Ready reference first second (put t 0 (tableOf next)) k (stretchOf reference next .from) (stretchOf reference next .to) space1 space2) e
-      (search-ready reference first second t next space1 space2 a (omega arith) (omega arith) (omega (arith, m .rows)) (omega (arith, m .short, m .room1)) (omega (arith, m .short, m .room2))))
+  pub next-plain : All Plain (take n (variantsFrom reference first second h))
+  next-plain = rw next-variants (variants-plain reference first second next)
+
+  module _ (m : Markable reference first second h) where
+    next-sound : All (SoundItem reference first second) next
+    next-sound =
+        all-take (SoundItem reference first second) n (itemsFrom first second h)
+        (items-sound reference first second (entriesAt first (h .at1)) (entriesAt second (h .at2)) (m .ready .ready1 .sound) (m .ready .ready2 .sound))
+
+    pub next-small : All SmallEntry (take n (itemsFrom first second h))
+    next-small = all-each (λ i s. row-small reference first second i s (m .short) (m .ready .ready1 .short) (m .ready .ready2 .short)) next next-sound
+
+    pub next-ready : n ≤ most → (t u : List ℕ) → u ≡ put t 0 (tableOf (take n (itemsFrom first second h))) → agree.Ready reference first second u n
+    next-ready few t u eu =
+        let e = length-take-le n (itemsFrom first second h) there in
+        rw eu (record {
+          few = few;
+          sound = λ k l.
+              table-row (λ (r : Row). Sound reference (pick (r .first) first second) r) t next k (omega arith) (all-each (row-sound reference first second) next next-sound);
+        })
 
   module _ (d e : List ℕ) (at : ℕ) where
     pub next-undecided : most < n → e ≡ put d at (replicate n QUESTION)

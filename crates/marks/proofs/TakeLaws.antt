@@ -1,13 +1,11 @@
 -- Laws of the first elements of a list.
 --     take-map, all-take     of a list made element by element; what is so of each element
 --     put-part               the first n elements, written into room
---     room-made              room made of n elements has n
 -- Assumes nothing.
 use mathlib.Core.List.{List, [], _∷_, map}
 use mathlib.Core.Path.{_≡_, refl, ap}
 use Prim.Native.Nat.{ℕ, zero, suc, _≤_}
-use native.Mathlib.Omega.{arith}
-use lib.ListN.{length, take, replicate, length-replicate}
+use lib.ListN.{length, take}
 use lib.Seq.{paste, length-take-le}
 use Rattle.bases.specs.Put.{put}
 use Rattle.donors.specs.Apart.{All}
@@ -25,6 +23,3 @@ module _ {X : Type 0} (P : X → Type 0) where
 
 pub put-part : (d : List ℕ) (at : ℕ) (s : List ℕ) (n : ℕ) → n ≤ length s → paste d at s n ≡ put d at (take n s)
 put-part d at s n h = rw (length-take-le n s h)
-
-pub room-made : (n : ℕ) → n ≤ length {A = ℕ} (replicate n 0)
-room-made n = omega (arith, length-replicate {A = ℕ} n 0)

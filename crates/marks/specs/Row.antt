@@ -1,54 +1,64 @@
--- Entries in merged order as rows of the table that the search reads: nine numbers an entry; and the stretch of the reference where they
--- lie.
+-- Entries in merged order as rows of the table that the search reads: ten numbers an entry.
 -- Assumes nothing: these are definitions.
 use mathlib.Core.Bool.{true, false}
 use mathlib.Core.List.{List, [], _∷_, _++_}
-use Prim.Native.Nat.{ℕ, _+_, max, min}
-use lib.ListN.{length}
+use Prim.Native.Nat.{ℕ, _^_, _≤_, _<_}
 use Rattle.bases.specs.Pick.{pick}
 use Rattle.donors.specs.declared.table.Allele.{Allele}
 use Rattle.donors.specs.declared.table.Row.{Row}
 use Rattle.vcf.specs.declared.entry.Entry.{Entry}
 use Rattle.vcf.specs.declared.entry.Part.{Part}
 use Rattle.clusters.specs.declared.item.Item.{Item}
-use Rattle.marks.specs.declared.row.Stretch.{Stretch}
 use Rattle.clusters.specs.Item.{named, startOf}
 
--- Bytes in the list's text.
+-- Bytes in the list's text, of an allele that takes its entry's span.
 abbrev pub inText : Part → Allele
-inText p = record { text = true; at = p .at; len = p .len }
+inText p = record { room = true; text = true; at = p .at; len = p .len }
 
 -- Where the bytes of allele k stand: those of REF in the reference, those of an ALT in the list's text.
 abbrev pub standOf : Entry → ℕ → Allele
-standOf e k = named k (record { text = false; at = startOf e .0; len = e .reference .len }) (inText (e .first)) (inText (e .second))
+standOf e k =
+    named k (record { room = true; text = false; at = startOf e .0; len = e .reference .len }) (inText (e .first)) (inText (e .second))
 
--- The row of an entry.
+-- The row of an entry: it counts 1.
 abbrev pub rowOf : Item → Row
 rowOf i =
     let e = i .entry in
-    record { first = i .side; start = startOf e .0; len = e .reference .len; copy0 = standOf e (e .copy0); copy1 = standOf e (e .copy1) }
+    record {
+      first = i .side;
+      start = startOf e .0;
+      len = e .reference .len;
+      weight = 1;
+      copy0 = standOf e (e .copy0);
+      copy1 = standOf e (e .copy1);
+    }
 
--- A row as numbers: its list is 1 or 2, and an allele is in the list's text where its first number is 1.
+-- The numbers of a row fit into a table.
+pub record Small (r : Row) : Type 0 where
+  pub start : r .start < 2 ^ 32
+  pub len : r .len < 2 ^ 32
+  pub weight : r .weight < 2 ^ 32
+  pub at0 : r .copy0 .at < 2 ^ 32
+  pub len0 : r .copy0 .len < 2 ^ 32
+  pub at1 : r .copy1 .at < 2 ^ 32
+  pub len1 : r .copy1 .len < 2 ^ 32
+
+-- The same of an entry's row; and there is a POS.
+abbrev pub SmallEntry : Item → Type 0
+SmallEntry i = (1 ≤ i .entry .pos .0) × Small (rowOf i)
+
+-- The first number of an allele: 2 where it takes its entry's span, and 1 more where its bytes stand in the text.
+abbrev pub kindOf : Allele → ℕ
+kindOf a = pick (a .room) (pick (a .text) 3 2) (pick (a .text) 1 0)
+
+-- A row as numbers: its list is 1 or 2.
 abbrev pub numbersOf : Row → List ℕ
 numbersOf r =
-    pick (r .first) 1 2 ∷ r .start ∷ r .len
-    ∷ pick (r .copy0 .text) 1 0 ∷ r .copy0 .at ∷ r .copy0 .len
-    ∷ pick (r .copy1 .text) 1 0 ∷ r .copy1 .at ∷ r .copy1 .len ∷ []
+    pick (r .first) 1 2 ∷ r .start ∷ r .len ∷ r .weight
+    ∷ kindOf (r .copy0) ∷ r .copy0 .at ∷ r .copy0 .len
+    ∷ kindOf (r .copy1) ∷ r .copy1 .at ∷ r .copy1 .len ∷ []
 
 -- Entries as a table, row behind row.
 unfoldable pub tableOf : List Item → List ℕ
 tableOf [] = []
 tableOf (i ∷ is) = numbersOf (rowOf i) ++ tableOf is
-
--- A stretch with one row more in it.
-abbrev pub widened : Stretch → Row → Stretch
-widened s r = record { from = min (s .from) (r .start); to = max (s .to) (r .start + r .len) }
-
--- With entries more in it,
-unfoldable pub stretchWith : Stretch → List Item → Stretch
-stretchWith s [] = s
-stretchWith s (i ∷ is) = stretchWith (widened s (rowOf i)) is
-
--- and the stretch where entries lie: from the smallest start to the largest end.
-abbrev pub stretchOf : List ℕ → List Item → Stretch
-stretchOf reference is = stretchWith (record { from = length reference; to = 0 }) is

@@ -12,21 +12,13 @@ ghost use Rattle.marks.specs.Marks.{marksAfter};
 ghost use Rattle.clusters.specs.Merged.{mergedItems};
 use crate::row::put_rows;
 use crate::skip::skip_clusters;
-use bases::reference::LONGEST_REFERENCE;
 use clusters::cluster::next_cluster;
 use clusters::heads::Heads;
 use clusters::heads::is_done;
 use clusters::heads::start_heads;
 use donors::table::MOST;
-use donors::table::WIDTH;
-use fields::allele::LONGEST_ALLELE;
+use donors::table::TABLE;
 use matching::search::best_choices;
-
-// How many numbers the search's table has.
-const TABLE: usize = MOST * WIDTH;
-
-// Room for a donor of any cluster that is searched over.
-const ROOM: usize = LONGEST_REFERENCE + MOST * LONGEST_ALLELE;
 
 // What is told of the cluster that is asked for: is there one, is it decided, and its score (0 where it is undecided).
 pub struct Marked {
@@ -62,22 +54,19 @@ fn put_undecided(n: usize, marks: &mut [u8], at: usize)
     }
 }
 
-// Marks the next `count` entries, which are a cluster, from entry `at` on. `table`, `mine` and `other` are room for the search: what is
-// left there is not told.
+// Marks the next `count` entries, which are a cluster, from entry `at` on. `table` is room for the search: what is left there is not told.
 fn mark_cluster(
     reference: &[u8],
     first: &[u8],
     second: &[u8],
     heads: Heads,
     count: usize,
-    table: &mut [usize],
-    mine: &mut [u8],
-    other: &mut [u8],
+    table: &mut [u32; TABLE],
     marks: &mut [u8],
     at: usize,
 ) -> Marked
     requires { ⌜
-        Markable (now reference) (now first) (now second) heads (length (now table)) (length (now mine)) (length (now other))
+        Markable (now reference) (now first) (now second) heads
         × (1 ≤ count)
         × (count ≤ length (itemsFrom (now first) (now second) heads))
         × (at + count ≤ length (now marks))
@@ -99,18 +88,8 @@ fn mark_cluster(
             score: 0,
         };
     }
-    let stretch = put_rows(reference, first, second, heads, count, table);
-    let best = best_choices(
-        reference,
-        first,
-        second,
-        table,
-        count,
-        stretch.from,
-        stretch.to,
-        mine,
-        other,
-    );
+    put_rows(first, second, heads, count, table);
+    let best = best_choices(reference, first, second, table, count);
     let choices = best.choices;
     put_choices(choices, count, marks, at);
     Marked {
@@ -120,20 +99,17 @@ fn mark_cluster(
     }
 }
 
-// Marks every entry from the cursors on, and sums the score over the decided clusters. `table`, `mine` and `other` are room for the search,
-// as above.
+// Marks every entry from the cursors on, and sums the score over the decided clusters. `table` is room for the search, as above.
 fn mark_from(
     reference: &[u8],
     first: &[u8],
     second: &[u8],
     from: Heads,
-    table: &mut [usize],
-    mine: &mut [u8],
-    other: &mut [u8],
+    table: &mut [u32; TABLE],
     marks: &mut [u8],
 ) -> usize
     requires { ⌜
-        Markable (now reference) (now first) (now second) from (length (now table)) (length (now mine)) (length (now other))
+        Markable (now reference) (now first) (now second) from
         × (length (itemsFrom (now first) (now second) from) ≤ length (now marks))
         ⌝ }
     ensures { λ r. ⌜
@@ -155,8 +131,6 @@ fn mark_from(
             heads,
             found.count,
             table,
-            mine,
-            other,
             marks,
             at,
         );
@@ -182,19 +156,8 @@ pub fn mark_every(reference: &[u8], first: &[u8], second: &[u8], marks: &mut [u8
         ⌝ }
 {
     let heads = start_heads(first, second);
-    let mut table = [0usize; TABLE];
-    let mut mine = [0u8; ROOM];
-    let mut other = [0u8; ROOM];
-    mark_from(
-        reference,
-        first,
-        second,
-        heads,
-        &mut table,
-        &mut mine,
-        &mut other,
-        marks,
-    )
+    let mut table = [0u32; TABLE];
+    mark_from(reference, first, second, heads, &mut table, marks)
 }
 
 // Marks the entries of one cluster of two accepted lists. Where there is no such cluster it says so, and nothing is written.
@@ -227,9 +190,7 @@ pub fn mark_one(
         };
     }
     let found = next_cluster(reference, first, second, heads);
-    let mut table = [0usize; TABLE];
-    let mut mine = [0u8; ROOM];
-    let mut other = [0u8; ROOM];
+    let mut table = [0u32; TABLE];
     mark_cluster(
         reference,
         first,
@@ -237,8 +198,6 @@ pub fn mark_one(
         heads,
         found.count,
         &mut table,
-        &mut mine,
-        &mut other,
         marks,
         skipped.entries,
     )

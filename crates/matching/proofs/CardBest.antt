@@ -3,7 +3,7 @@
 --     score-words       the score is the number of chosen entries in both lists
 --     all-allowed       every choice is allowed
 --     legal-words, best-words
---                       a legal pair and the best pair are what document 01 says, for entries in merged order
+--                       a legal pair and the best pair are what document 01 says, for document 01's entries in merged order
 --     card-best         cardBest is document 01's best pair, and the only one
 --     card-split        at a cut, choices are together legal, and together best, exactly if each side is
 --     card-clusters     over any clusters cut where they may be, the best pair is the clusters' best pairs, joined
@@ -16,7 +16,8 @@ use mathlib.Core.Path.{_≡_, refl, subst, fun-ext}
 use Prim.Native.Nat.{ℕ, _+_, _<_}
 use native.Mathlib.Omega.{arith}
 use lib.ListN.{length}
-use Rattle.donors.specs.Choice.{Choice, plus, minus, out, Copy, copy0, copy1, Variant, chosen?, cardRules, chosenOf}
+use Rattle.donors.specs.Apart.{All}
+use Rattle.donors.specs.Choice.{Choice, plus, minus, out, Copy, copy0, copy1, Variant, Plain, chosen?, cardRules, chosenOf}
 use Rattle.donors.specs.Items.{Sorted, Solid}
 use Rattle.donors.specs.Rules.{list1, list2, putIf, donorOf, Allowed}
 use Rattle.donors.proofs.ChoiceLaws.{card-apart}
@@ -31,31 +32,31 @@ use Rattle.matching.proofs.CutLaws.{legal-split, best-split}
 pub rank-words : (rankOf plus < rankOf minus) × (rankOf minus < rankOf out)
 rank-words = omega arith
 
-counts-put : (s : Bool) (c : Choice) (x : Variant) (us vs : List Variant)
-    → length (putIf (Bool·beq list1 s && chosen? c) x us) + length (putIf (Bool·beq list2 s && chosen? c) x vs) ≡ counts c + (length us + length vs)
-counts-put true plus x us vs = omega arith
-counts-put true minus x us vs = omega arith
-counts-put true out x us vs = omega arith
-counts-put false plus x us vs = omega arith
-counts-put false minus x us vs = omega arith
-counts-put false out x us vs = omega arith
+counts-put : (s : Bool) (c : Choice) (x : Variant) (us vs : List Variant) → x .weight ≡ 1
+    → length (putIf (Bool·beq list1 s && chosen? c) x us) + length (putIf (Bool·beq list2 s && chosen? c) x vs) ≡ counts x c + (length us + length vs)
+counts-put true plus x us vs e = omega arith
+counts-put true minus x us vs e = omega arith
+counts-put true out x us vs e = omega arith
+counts-put false plus x us vs e = omega arith
+counts-put false minus x us vs e = omega arith
+counts-put false out x us vs e = omega arith
 
-pub score-words : (xs : List Variant) (φ : List Choice) → score cardScoring xs φ ≡ chosenCount xs φ
+pub score-words : (xs : List Variant) → All Plain xs → (φ : List Choice) → score cardScoring xs φ ≡ chosenCount xs φ
 unfolding score chosenOf
-score-words [] φ = refl
-score-words (x ∷ xs) [] = refl
-score-words (x ∷ xs) (c ∷ φ) = omega (arith, counts-put (x .side) c x (chosenOf list1 xs φ) (chosenOf list2 xs φ), score-words xs φ)
+score-words [] p φ = refl
+score-words (x ∷ xs) p [] = refl
+score-words (x ∷ xs) p (c ∷ φ) = omega (arith, counts-put (x .side) c x (chosenOf list1 xs φ) (chosenOf list2 xs φ) (p .0 .weight), score-words xs (p .1) φ)
 
 pub all-allowed : (xs : List Variant) (φ : List Choice) → Allowed cardRules xs φ
 all-allowed [] φ = tt
 all-allowed (x ∷ xs) [] = tt
 all-allowed (x ∷ xs) (c ∷ φ) = (tt, all-allowed xs φ)
 
-module _ (R : List ℕ) (xs : List Variant) (solid : Solid cardRules xs) (sorted : Sorted cardRules xs) where
+module _ (R : List ℕ) (xs : List Variant) (plain : All Plain xs) (solid : Solid cardRules xs) (sorted : Sorted cardRules xs) where
   pub legal-words : (φ : List Choice) → Legal cardRules R xs φ ↔ LegalPair R xs φ
   legal-words φ = (
-    λ g. record { long = g .long; apart = λ j. card-apart j xs φ solid sorted .0 (g .apart j); same0 = g .same copy0; same1 = g .same copy1 },
-    λ g. record { long = g .long; allowed = all-allowed xs φ; apart = λ j. card-apart j xs φ solid sorted .1 (g .apart j); same = same g },
+    λ g. record { long = g .long; apart = λ j. card-apart j xs φ plain solid sorted .0 (g .apart j); same0 = g .same copy0; same1 = g .same copy1 },
+    λ g. record { long = g .long; allowed = all-allowed xs φ; apart = λ j. card-apart j xs φ plain solid sorted .1 (g .apart j); same = same g },
   )
     where
       same : LegalPair R xs φ → (h : Copy) → donorOf cardRules R list1 h xs φ ≡ donorOf cardRules R list2 h xs φ
@@ -64,7 +65,7 @@ module _ (R : List ℕ) (xs : List Variant) (solid : Solid cardRules xs) (sorted
 
   pub best-words : (φ : List Choice) → IsBest cardRules cardScoring R xs φ ↔ BestPair R xs φ
   best-words φ =
-      let e : score cardScoring xs ≡ chosenCount xs = fun-ext (score-words xs) in
+      let e : score cardScoring xs ≡ chosenCount xs = fun-ext (score-words xs plain) in
       subst (λ (s : List Choice → ℕ). IsBest cardRules cardScoring R xs φ ↔ Best rankOf (LegalPair R xs) s φ) e (
         λ b. record { legal = legal-words φ .0 (b .legal); top = λ ψ g. b .top ψ (legal-words ψ .1 g) },
         λ b. record { legal = legal-words φ .1 (b .legal); top = λ ψ g. b .top ψ (legal-words ψ .0 g) },

@@ -2,7 +2,6 @@
 --     entries, entryAt          the entries of the rows from row i on, and of row i
 --     entries-length, entries-at
 --                               how many there are, and which stands at a place
---     ready-room                what a table is ready for is a matter of how much room there is, and not of what stands there
 --     legal-not, legal-all      choices that do not overlap are not legal where the donors differ on a copy, and legal where they do on none
 -- Assumes nothing.
 use mathlib.Core.Bool.{Bool, true, false, _&&_}
@@ -16,9 +15,9 @@ use lib.ListN.{length}
 use Rattle.bases.specs.Letter.{basesOf}
 use Rattle.bases.proofs.TestLaws.{is-true}
 use Rattle.bases.specs.Pick.{pick}
-use Rattle.donors.specs.Agree.{Ready, oneDonor?}
+use Rattle.donors.specs.Agree.{oneDonor?}
 use Rattle.donors.specs.Choice.{Copy, copy0, copy1, Variant, cardRules}
-use Rattle.donors.specs.Table.{rowAt, variantOf, variantsFrom, choicesFrom, copyOf}
+use Rattle.donors.specs.Table.{rowAt, variantOf, variantsFrom, choicesFrom}
 use Rattle.matching.specs.BestOf.{every?, keep?}
 use Rattle.matching.specs.Card.{cardFinite}
 use Rattle.matching.specs.Made.{Kept, cardLegal?}
@@ -50,10 +49,6 @@ module _ (reference first second t : List ℕ) where
       let e : n ≡ k + suc (n - (k + 1)) = omega arith in
       ap (entries 0) e ∙ entries-append 0 k (suc (n - (k + 1))) ∙ rw (zero-add k)
 
-  pub ready-room : (n a b space1 space2 room1 room2 : ℕ) → Ready reference first second t n a b space1 space2 → space1 ≡ room1 → space2 ≡ room2
-      → Ready reference first second t n a b room1 room2
-  ready-room n a b space1 space2 room1 room2 r e f = rw (← e, ← f) r
-
   module _ (choices : List ℕ) (n : ℕ) (k : Kept (entries 0 n) (choicesFrom choices 0 n)) where
     legal-donors : (u v : Bool) → oneDonor? reference first second t choices copy0 n ≡ u → oneDonor? reference first second t choices copy1 n ≡ v
         → cardLegal? (basesOf reference) (entries 0 n) (choicesFrom choices 0 n) ≡ u && (v && true)
@@ -75,5 +70,6 @@ module _ (reference first second t : List ℕ) where
         go true = refl
         go false = refl
 
-    pub legal-all : ((k : ℕ) → k < 2 → oneDonor? reference first second t choices (copyOf k) n ≡ true) → cardLegal? (basesOf reference) (entries 0 n) (choicesFrom choices 0 n) ≡ true
-    legal-all f = legal-donors true true (f 0 (omega arith)) (f 1 (omega arith))
+    pub legal-all : oneDonor? reference first second t choices copy0 n ≡ true → oneDonor? reference first second t choices copy1 n ≡ true
+        → cardLegal? (basesOf reference) (entries 0 n) (choicesFrom choices 0 n) ≡ true
+    legal-all e f = legal-donors true true e f

@@ -1,6 +1,6 @@
 -- Document 01's examples of marks, as cardBest computes them: 1, 6 to 12, in one table.
 -- Assumes nothing.
-use mathlib.Core.Bool.{Bool}
+use mathlib.Core.Bool.{Bool, true}
 use mathlib.Core.List.{List, [], _∷_, _++_}
 use mathlib.Core.Path.{_≡_, refl}
 use Prim.Native.Nat.{ℕ, _-_}
@@ -30,7 +30,7 @@ T = 84
 
 -- An entry by its list, POS, REF and the alleles for copies 0 and 1.
 abbrev entry : Bool → ℕ → List ℕ → List ℕ → List ℕ → Variant
-entry j pos ref a b = record { side = j; start = pos - 1; len = length ref; allele0 = a; allele1 = b }
+entry j pos ref a b = record { side = j; start = pos - 1; len = length ref; weight = 1; room0 = true; allele0 = a; room1 = true; allele1 = b }
 
 -- An entry with one ALT, 1/1.
 abbrev hom : Bool → ℕ → List ℕ → List ℕ → Variant

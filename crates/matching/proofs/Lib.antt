@@ -8,11 +8,17 @@ pub mod CutLaws
 pub mod Determines
 pub mod EntryLaws
 pub mod Examples
+pub mod FitsLaws
 pub mod GapLaws
+pub mod ImprovedLaws
+pub mod KeepLaws
+pub mod LastLaws
 pub mod LegalLaws
 pub mod MadeLaws
 pub mod MidwayLaws
 pub mod OrderLaws
+pub mod ScoreLaws
 pub mod SearchLaws
 pub mod StepLaws
 pub mod TopLaws
+pub mod WeightLaws

@@ -1,189 +1,155 @@
 -- Laws of the search over a table of entries, as the code goes: a choice for the entry at n - left, and then on with one entry fewer left.
---     made-all                    with no entry left the choices made do not overlap
---     search-found, search-none   and they are the answer where they are legal, or there is none
---     made-skipped, made-taken    what is carried after the entry is left out, and after it is chosen
---     made-total                  the score so far and the entries left are no more than n
---     search-all                  the answer is that for `+`, where that chooses every entry left
---     search-but-one              it is the better of those for `+` and `-`, where that leaves out one of the entries left at the most
---     search-taken, search-skipped
---                                 it is the better of those for the three choices, or, where the entry overlaps an earlier one, that for leaving it out
+--     Went                        the array stands as before, and the best so far is improved by the answer below a choice
+--     tried                       an entry that is tried fits, where something can be better
+--     made-taken, went-taken      what is carried after the entry is chosen, and what the search from there on gives
+--     went-unfit, went-untried    an entry that overlaps is not chosen, nor one where nothing can be better
+--     made-less                   what is carried is at least the entry's weight
+--     made-skipped, went-skipped, went-unskipped
+--                                 the same where the entry is left out
+--     search-went                 the three choices tried in turn give the best so far, improved by the answer
 -- Assumes nothing.
-use mathlib.Core.Bool.{Bool, true, false, cond}
+use mathlib.Core.Bool.{Bool, true, false, _&&_}
 use mathlib.Core.List.{List, [], _∷_, _++_}
-use mathlib.Core.Option.{none, some}
-use mathlib.Core.Path.{_≡_, sym, ap, ap₂, _∙_, subst}
-use Prim.Native.Nat.{ℕ, suc, _+_, _-_, _≤_, _<_}
+use mathlib.Core.Path.{_≡_, refl, sym, ap, _∙_}
+use Prim.Native.Nat.{ℕ, suc, _+_, _-_, _≤_}
 use native.Mathlib.Omega.{arith}
 use lib.Dec.{T}
 use lib.ListN.{length, set, length-append}
 use Rattle.bases.specs.Letter.{basesOf}
-use Rattle.bases.proofs.TestLaws.{is-true}
-use Rattle.donors.specs.declared.table.Row.{Row}
+use Rattle.bases.proofs.TestLaws.{of-true, both, is-true}
 use Rattle.donors.specs.Choice.{Choice, plus, minus, out, Variant, chosen?, cardRules}
-use Rattle.donors.specs.Table.{most, rowAt, choicesFrom}
+use Rattle.donors.specs.Table.{rowAt, choicesFrom}
 use Rattle.matching.specs.declared.answer.Best.{Best}
-use Rattle.matching.specs.declared.ends.Ends.{Ends}
-use Rattle.matching.specs.Answer.{byteOf, nothingFound, answerOf, betterOf}
-use Rattle.matching.specs.Best.{score}
+use Rattle.matching.specs.Answer.{byteOf, canBeat?, improved}
 use Rattle.matching.specs.BestOf.{keep?}
 use Rattle.matching.specs.Card.{cardFinite}
-use Rattle.matching.specs.Made.{Kept, cardLegal?, answerFrom, endBy, endsAfter, Made}
+use Rattle.matching.specs.Fits.{fits?}
+use Rattle.matching.specs.Made.{answerFrom, Made}
 use Rattle.matching.proofs.AnswerLaws.{choices-length}
 use Rattle.matching.proofs.EntryLaws.{entries, entryAt, entries-length, entries-at}
-use Rattle.matching.proofs.MadeLaws.{made-few, made-reads, made-out, made-chosen, dropped}
-use Rattle.matching.proofs.StepLaws.{search-stop, search-three, search-top, search-near}
+use Rattle.matching.proofs.FitsLaws.{fits-keeps}
+use Rattle.matching.proofs.ImprovedLaws.{improved-low}
+use Rattle.matching.proofs.MadeLaws.{Carried, made-reads, made-back, made-weight, made-chosen, made-out}
+use Rattle.matching.proofs.StepLaws.{below, below-kept, below-dropped, below-most, search-three}
 
-module _ (reference first second t : List ℕ) where
-  -- the entries that the search is over
-  abbrev all : ℕ → List Variant
-  all n = entries reference first second t 0 n
+-- the choices made are those of the entries before row n - left
+module _ {reference first second t choices : List ℕ} {top n left : ℕ} (m : Carried reference first second t choices top n left) (some-left : left ≡ 0 → ⊥) where
+  -- the entries that the search is over, and the choices made
+  abbrev all : List Variant
+  all = entries reference first second t 0 n
 
-  same-answer : (u v : ℕ) (c d : List ℕ) → u ≡ v → c ≡ d → _≡_ {A = Best} (record { score = u; found = true; choices = c }) (record { score = v; found = true; choices = d })
-  same-answer u v c d e f = ap₂ (λ (w : ℕ) (b : List ℕ). record { score = w; found = true; choices = b }) e f
+  abbrev φ : List Choice
+  φ = choicesFrom choices 0 (n - left)
 
-  -- no entry is left
-  module _ (choices : List ℕ) (ends : Ends) (total n left : ℕ) (none-left : left ≡ 0) (m : Made (all n) (choicesFrom choices 0 (n - left)) choices ends total) where
-    pub made-all : Kept (all n) (choicesFrom choices 0 n)
-    made-all = let e : n - left ≡ n = omega arith in rw e at (m .kept)
+  many : length φ ≡ n - left
+  many = choices-length choices 0 (n - left)
 
-    stop : answerFrom (basesOf reference) (all n) left (choicesFrom choices 0 (n - left))
-        ≡ answerOf (all n) (cond (cardLegal? (basesOf reference) (all n) (choicesFrom choices 0 (n - left))) (some (choicesFrom choices 0 (n - left))) none)
-    stop = rw none-left (ap (answerOf (all n)) (search-stop (basesOf reference) (all n) (choicesFrom choices 0 (n - 0))))
+  -- the answer that goes on from the choices made
+  abbrev answer : Best
+  answer = answerFrom (basesOf reference) all left φ
 
-    legal-all : (u : Bool) → cardLegal? (basesOf reference) (all n) (choicesFrom choices 0 n) ≡ u
-        → cardLegal? (basesOf reference) (all n) (choicesFrom choices 0 (n - left)) ≡ u
-    legal-all u h = let e : n - left ≡ n = omega arith in rw e h
+  abbrev more : Choice → List Choice
+  more c = φ ++ (c ∷ [])
 
-    pub search-found : cardLegal? (basesOf reference) (all n) (choicesFrom choices 0 n) ≡ true
-        → record { score = total; found = true; choices = choices } ≡ answerFrom (basesOf reference) (all n) left (choicesFrom choices 0 (n - left))
-    search-found h =
-        same-answer total _ choices _ (m .counted) (m .array)
-        ∙ sym (stop ∙ ap (λ (u : Bool). answerOf (all n) (cond u (some (choicesFrom choices 0 (n - left))) none)) (legal-all true h))
+  -- the entry at the row, those before it, and those behind it
+  abbrev entry : Variant
+  entry = entryAt reference first second t (n - left)
 
-    pub search-none : cardLegal? (basesOf reference) (all n) (choicesFrom choices 0 n) ≡ false
-        → nothingFound ≡ answerFrom (basesOf reference) (all n) left (choicesFrom choices 0 (n - left))
-    search-none h = sym (stop ∙ ap (λ (u : Bool). answerOf (all n) (cond u (some (choicesFrom choices 0 (n - left))) none)) (legal-all false h))
+  abbrev us : List Variant
+  us = entries reference first second t 0 (n - left)
 
-  -- the choices made are those of the entries before row n - left
-  module _ (choices : List ℕ) (ends : Ends) (total n left : ℕ) (few : n ≤ most) (some-left : left ≡ 0 → ⊥) (enough : left ≤ n)
-      (m : Made (all n) (choicesFrom choices 0 (n - left)) choices ends total) where
-    abbrev φ : List Choice
-    φ = choicesFrom choices 0 (n - left)
+  abbrev vs : List Variant
+  vs = entries reference first second t (n - left + 1) (n - (n - left + 1))
 
-    abbrev row : Row
-    row = rowAt t (n - left)
+  at : all ≡ us ++ (entry ∷ vs)
+  at = entries-at reference first second t (n - left) n (omega arith)
 
-    abbrev more : Choice → List Choice
-    more c = φ ++ (c ∷ [])
+  long : length φ ≡ length us
+  long = many ∙ sym (entries-length reference first second t 0 (n - left))
 
-    -- the entries before the row, and those behind it
-    abbrev us : List Variant
-    us = entries reference first second t 0 (n - left)
+  longer : (c : Choice) → length (more c) ≡ n - (left - 1)
+  longer c = omega (arith, many, length-append φ (c ∷ []))
 
-    abbrev vs : List Variant
-    vs = entries reference first second t (n - left + 1) (n - (n - left + 1))
+  midway : Made (us ++ (entry ∷ vs)) φ choices top
+  midway = rw at at (m .made)
 
-    at : all n ≡ us ++ (entryAt reference first second t (n - left) ∷ vs)
-    at = entries-at reference first second t (n - left) n (omega arith)
+  -- a choice is kept exactly if it fits
+  fitting : (c : Choice) (u : Bool) → fits? t choices (n - left) c ≡ u → keep? cardRules cardFinite all (more c) ≡ u
+  fitting c u f = fits-keeps reference first second t choices n (n - left) (omega arith) (m .made .kept) c ∙ f
 
-    long : length φ ≡ length us
-    long = choices-length choices 0 (n - left) ∙ sym (entries-length reference first second t 0 (n - left))
+  -- the array with the entry chosen
+  abbrev next : Choice → List ℕ
+  next c = set choices (n - left) (byteOf c)
 
-    short : length φ < most
-    short = omega (arith, choices-length choices 0 (n - left))
+  taken : (c : Choice) → T (chosen? c) → fits? t choices (n - left) c ≡ true → Made all (more c) (next c) top
+  taken c u f = rw at (made-chosen us entry vs φ long choices top midway c (n - left) u many (omega arith) (rw at at (of-true (fitting c true f))))
 
-    longer : (c : Choice) → length (more c) ≡ n - (left - 1)
-    longer c = omega (arith, choices-length choices 0 (n - left), length-append φ (c ∷ []))
+  taken-reads : (c : Choice) → T (chosen? c) → fits? t choices (n - left) c ≡ true → choicesFrom (next c) 0 (n - (left - 1)) ≡ more c
+  taken-reads c u f = made-reads all (more c) (next c) top (n - (left - 1)) (taken c u f) (longer c)
 
-    midway : Made (us ++ (entryAt reference first second t (n - left) ∷ vs)) φ choices ends total
-    midway = rw at at m
+  skipped : Made all (more out) choices (top - rowAt t (n - left) .weight)
+  skipped = rw at (made-out us entry vs φ long choices top midway (omega (arith, many)) (rw at at (of-true (fitting out true refl))))
 
-    out-made : Made (all n) (more out) choices ends total
-    out-made = rw at (made-out us (entryAt reference first second t (n - left)) vs φ long choices ends total midway short)
+  skipped-reads : choicesFrom choices 0 (n - (left - 1)) ≡ more out
+  skipped-reads = made-reads all (more out) choices _ (n - (left - 1)) skipped (longer out)
 
-    -- the row's entry chosen, where it starts at its list's end or behind it
-    taken-made : (c : Choice) → T (chosen? c) → endBy ends (row .first) ≤ row .start
-        → Made (all n) (more c) (set choices (n - left) (byteOf c)) (endsAfter ends (row .first) (row .start + row .len)) (total + 1)
-    taken-made c u b =
-        rw at (made-chosen us (entryAt reference first second t (n - left)) vs φ long choices ends total midway short c (n - left) u (choices-length choices 0 (n - left)) b)
+  -- the answer below a choice
+  abbrev answer-below : Choice → Best
+  answer-below c = below (basesOf reference) all (left - 1) φ c
 
-    skipped-reads : choicesFrom choices 0 (n - (left - 1)) ≡ more out
-    skipped-reads = made-reads (all n) (more out) choices ends total (n - (left - 1)) out-made (longer out)
+  abbrev pub Went : Choice → Best → List ℕ → Best → Type 0
+  Went c best now r = (now ≡ choices) × (r ≡ improved best (answer-below c))
 
-    taken-reads : (c : Choice) → T (chosen? c) → endBy ends (row .first) ≤ row .start → choicesFrom (set choices (n - left) (byteOf c)) 0 (n - (left - 1)) ≡ more c
-    taken-reads c u b = made-reads (all n) (more c) (set choices (n - left) (byteOf c)) _ (total + 1) (n - (left - 1)) (taken-made c u b) (longer c)
+  low : (c : Choice) (s : ℕ) (best : Best) (now : List ℕ) → Made all (more c) now s → canBeat? s best ≡ false → best ≡ improved best (answer-below c)
+  low c s best now k f = sym (improved-low s best (answer-below c) f (omega (arith, k .counted, below-most (basesOf reference) all (left - 1) φ c)))
 
-    pub made-skipped : Made (all n) (choicesFrom choices 0 (n - (left - 1))) choices ends total
-    made-skipped = rw skipped-reads out-made
+  -- the array as it stands now, and the entry chosen
+  module _ (now : List ℕ) (same : now ≡ choices) (c : Choice) (u : T (chosen? c)) where
+    pub tried : (best : Best) {v : Bool} → v ≡ canBeat? top best && fits? t now (n - left) c → v ≡ true → T (canBeat? top best) × (true ≡ fits? t now (n - left) c)
+    tried best e v = let b = both (canBeat? top best) (fits? t now (n - left) c) .0 (of-true (sym e ∙ v)) in (b .0, sym (is-true (fits? t now (n - left) c) (b .1)))
 
-    pub made-total : total + left ≤ n
-    made-total = omega (arith, made-few (all n) φ choices ends total m, choices-length choices 0 (n - left))
+    pub made-taken : {v : Bool} → v ≡ fits? t now (n - left) c → v ≡ true
+        → Made all (choicesFrom (set now (n - left) (byteOf c)) 0 (n - (left - 1))) (set now (n - left) (byteOf c)) top
+    made-taken f v = let g : fits? t choices (n - left) c ≡ true = rw same at (sym f ∙ v) in rw (same, taken-reads c u g) (taken c u g)
 
-    -- the answer from the choices made on, and that below one choice more
-    abbrev Answer : Best → Type 0
-    Answer v = v ≡ answerFrom (basesOf reference) (all n) left φ
+    pub went-taken : {v : Bool} → v ≡ fits? t now (n - left) c → v ≡ true → (best r : Best) (then : List ℕ)
+        → r ≡ improved best (answerFrom (basesOf reference) all (left - 1) (choicesFrom (set now (n - left) (byteOf c)) 0 (n - (left - 1))))
+        → then ≡ set (set now (n - left) (byteOf c)) (n - left) 48 → Went c best then r
+    went-taken f v best r then e d =
+        let g : fits? t choices (n - left) c ≡ true = rw same at (sym f ∙ v) in (
+          d ∙ rw same (made-back all φ choices top (byteOf c) (n - left) (m .made) many (omega arith)),
+          e ∙ rw (same, taken-reads c u g) (ap (improved best) (sym (below-kept (basesOf reference) all (left - 1) φ c (fitting c true g)))),
+        )
 
-    abbrev below : List Choice → Best
-    below θ = answerFrom (basesOf reference) (all n) (left - 1) θ
+    -- it is not tried, and all stays as it was
+    module _ (best r : Best) (then : List ℕ) (e : r ≡ best) (d : then ≡ now) where
+      pub went-unfit : {v : Bool} → v ≡ fits? t now (n - left) c → v ≡ false → Went c best then r
+      went-unfit f v = (d ∙ same, e ∙ sym (ap (improved best) (below-dropped (basesOf reference) all (left - 1) φ c (fitting c false (rw same at (sym f ∙ v))))))
 
-    answer : (v : Best) → v ≡ answerFrom (basesOf reference) (all n) (suc (left - 1)) φ → Answer v
-    answer v e = let k : suc (left - 1) ≡ left = omega arith in e ∙ ap (λ (k : ℕ). answerFrom (basesOf reference) (all n) k φ) k
+      pub went-untried : {v : Bool} → v ≡ canBeat? top best && fits? t now (n - left) c → v ≡ false → Went c best then r
+      went-untried f v = go (canBeat? top best) (fits? t now (n - left) c) refl refl (sym f ∙ v)
+        where
+          go : (p q : Bool) → canBeat? top best ≡ p → fits? t now (n - left) c ≡ q → p && q ≡ false → Went c best then r
+          go p false f g h = went-unfit refl g
+          go false true f g h = (d ∙ same, e ∙ low c top best (next c) (taken c u (rw same at g)) f)
+          go true true f g h = absurd (let z : _≡_ {A = ℕ} 0 1 = cc in omega arith)
 
-    whole : length φ + suc (left - 1) ≡ n
-    whole = omega (arith, choices-length choices 0 (n - left))
+  -- the entry's weight, and the entry left out
+  module _ (w : ℕ) (is : w ≡ rowAt t (n - left) .weight) where
+    pub made-less : w ≤ top
+    made-less = omega (arith, made-weight us entry vs φ long choices top midway)
 
-    out-kept : keep? cardRules cardFinite (all n) (more out) ≡ true
-    out-kept = is-true (keep? cardRules cardFinite (all n) (more out)) (out-made .kept)
+    module _ (now : List ℕ) (same : now ≡ choices) where
+      pub made-skipped : Made all (choicesFrom now 0 (n - (left - 1))) now (top - w)
+      made-skipped = rw (same, is, skipped-reads) skipped
 
-    taken-kept : (c : Choice) → T (chosen? c) → endBy ends (row .first) ≤ row .start → keep? cardRules cardFinite (all n) (more c) ≡ true
-    taken-kept c u b = is-true _ (taken-made c u b .kept)
+      pub went-skipped : (best r : Best) → r ≡ improved best (answerFrom (basesOf reference) all (left - 1) (choicesFrom now 0 (n - (left - 1)))) → Went out best now r
+      went-skipped best r e = (same, e ∙ rw (same, skipped-reads) (ap (improved best) (sym (below-kept (basesOf reference) all (left - 1) φ out (fitting out true refl)))))
 
-    taken-not : (c : Choice) → T (chosen? c) → row .start < endBy ends (row .first) → keep? cardRules cardFinite (all n) (more c) ≡ false
-    taken-not c u b = rw at (dropped us (entryAt reference first second t (n - left)) vs φ long c u (omega (arith, midway .ended (row .first))))
+      pub went-unskipped : (best : Best) {v : Bool} → v ≡ canBeat? (top - w) best → v ≡ false → Went out best now best
+      went-unskipped best f v = (same, low out (top - rowAt t (n - left) .weight) best choices skipped (rw is at (sym f ∙ v)))
 
-    -- what the code found of the row
-    module _ (r : Row) (end : ℕ) (is-row : r ≡ row) (is-end : end ≡ endBy ends (r .first)) where
-      free : end ≤ r .start → endBy ends (row .first) ≤ row .start
-      free b = subst (λ (q : Row). endBy ends (q .first) ≤ q .start) is-row (rw is-end at b)
-
-      not-free : r .start < end → row .start < endBy ends (row .first)
-      not-free b = subst (λ (q : Row). q .start < endBy ends (q .first)) is-row (rw is-end at b)
-
-      pub made-taken : (c : Choice) (next : List ℕ) (after : Ends) → T (chosen? c) → next ≡ set choices (n - left) (byteOf c)
-          → after ≡ endsAfter ends (r .first) (r .start + r .len) → end ≤ r .start
-          → Made (all n) (choicesFrom next 0 (n - (left - 1))) next after (total + 1)
-      made-taken c next after u e f b = rw (e, f, is-row, taken-reads c u (free b)) (taken-made c u (free b))
-
-      -- the entry may be chosen, and x is the answer below `+`
-      module _ (b : end ≤ r .start) (next : List ℕ) (e : next ≡ set choices (n - left) 43) (x : Best) (one : x ≡ below (choicesFrom next 0 (n - (left - 1)))) where
-        abbrev may : endBy ends (row .first) ≤ row .start
-        may = free b
-
-        x-is : x ≡ below (more plus)
-        x-is = one ∙ rw (e, taken-reads plus tt may)
-
-        pub search-all : x .score ≡ total + left → Answer x
-        search-all h =
-            answer x (search-top (basesOf reference) (all n) n (left - 1) φ whole true (taken-kept plus tt may) (taken-kept minus tt may) out-kept
-            x x-is (omega (arith, m .counted)))
-
-        -- y is that below `-`, and w the better of the two
-        module _ (then : List ℕ) (f : then ≡ set choices (n - left) 45) (y w : Best) (another : y ≡ below (choicesFrom then 0 (n - (left - 1)))) (two : w ≡ betterOf n x y) where
-          w-is : w ≡ betterOf n (below (more plus)) (below (more minus))
-          w-is = two ∙ rw (x-is, another, f, taken-reads minus tt may)
-
-          pub search-but-one : T (w .found) → total + left - 1 ≤ w .score → Answer w
-          search-but-one g h =
-              answer w (search-near (basesOf reference) (all n) n (left - 1) φ whole true (taken-kept plus tt may) (taken-kept minus tt may) out-kept
-              w w-is g (omega (arith, out-made .counted)))
-
-          pub search-taken : (z v : Best) → z ≡ below (choicesFrom choices 0 (n - (left - 1))) → v ≡ betterOf n w z → Answer v
-          search-taken z v third three =
-              answer v (three ∙ rw (w-is, third, skipped-reads)
-              (search-three (basesOf reference) (all n) n (left - 1) φ whole true (taken-kept plus tt may) (taken-kept minus tt may) out-kept))
-
-      pub search-skipped : (w z v : Best) → r .start < end → w ≡ nothingFound → z ≡ below (choicesFrom choices 0 (n - (left - 1))) → v ≡ betterOf n w z → Answer v
-      search-skipped w z v b e third three =
-          let h = not-free b in
-          answer v (three ∙ rw (e, third, skipped-reads)
-          (search-three (basesOf reference) (all n) n (left - 1) φ whole false (taken-not plus tt h) (taken-not minus tt h) out-kept))
+  pub search-went : (b0 b1 b2 b3 : Best) (c1 c2 c3 : List ℕ) → Went plus b0 c1 b1 → Went minus b1 c2 b2 → Went out b2 c3 b3 → b3 ≡ improved b0 answer
+  search-went b0 b1 b2 b3 c1 c2 c3 w1 w2 w3 =
+      let k : suc (left - 1) ≡ left = omega arith in
+      w3 .1 ∙ rw (w2 .1, w1 .1) (sym (search-three (basesOf reference) all (left - 1) φ b0)) ∙ ap (λ (k : ℕ). improved b0 (answerFrom (basesOf reference) all k φ)) k

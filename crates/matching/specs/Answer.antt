@@ -1,17 +1,17 @@
 -- The answer of a search as the code holds it: the choices are bytes, in an array of twelve.
 -- Assumes nothing: these are definitions.
-use mathlib.Core.Bool.{Bool, true, false}
-use mathlib.Core.List.{List, [], _∷_, _++_, map}
+use mathlib.Core.Bool.{Bool, true, false, not, _&&_, _||_}
+use mathlib.Core.List.{List, _++_, map}
 use mathlib.Core.Option.{Option, none, some}
-use Prim.Native.Nat.{ℕ, zero, suc, _+_, _-_}
-use lib.ListN.{length, getD, replicate}
+use Prim.Native.Nat.{ℕ, _-_}
+use lib.Dec.{ltb}
+use lib.ListN.{length, replicate}
 use Rattle.bases.specs.Pick.{pick}
 use Rattle.donors.specs.Choice.{Choice, plus, minus, out, Variant}
 use Rattle.donors.specs.Table.{most}
 use Rattle.matching.specs.declared.answer.Best.{Best}
 use Rattle.matching.specs.Best.{score}
 use Rattle.matching.specs.Card.{cardScoring}
-use Rattle.matching.specs.Search.{before?, first?}
 
 -- The byte that writes a choice: `+`, `-` or `0`.
 abbrev pub byteOf : Choice → ℕ
@@ -36,19 +36,10 @@ abbrev pub answerOf : List Variant → Option (List Choice) → Best
 answerOf xs none = nothingFound
 answerOf xs (some φ) = theseChoices xs φ
 
--- The n bytes from place i on.
-unfoldable pub bytesFrom : List ℕ → ℕ → ℕ → List ℕ
-bytesFrom c i zero = []
-bytesFrom c i (suc n) = getD c i 0 ∷ bytesFrom c (i + 1) n
+-- An answer of that score is better than the best so far: nothing was found yet, or it scores more.
+abbrev pub canBeat? : ℕ → Best → Bool
+canBeat? score best = not (best .found) || ltb (best .score) score
 
--- By their first n bytes c comes first in dictionary order, or they are alike.
-abbrev pub bytesFirst? : ℕ → List ℕ → List ℕ → Bool
-bytesFirst? n c d = first? (λ (b : ℕ). b) (bytesFrom c 0 n) (bytesFrom d 0 n)
-
--- Answer a scores more than b, or as much and its choices come first.
-abbrev pub beatsBy? : ℕ → Best → Best → Bool
-beatsBy? n a b = before? (b .score) (a .score) (bytesFirst? n (a .choices) (b .choices))
-
--- The better of two answers: what was found before what was not, and what beats before what is beaten.
-abbrev pub betterOf : ℕ → Best → Best → Best
-betterOf n a b = pick (a .found) (pick (b .found) (pick (beatsBy? n a b) a b) a) b
+-- The best so far, and an answer that comes behind it in dictionary order: the answer where it is better, else the best so far.
+abbrev pub improved : Best → Best → Best
+improved best a = pick (a .found && canBeat? (a .score) best) a best

@@ -1,4 +1,5 @@
--- The card's own score and rank. Document 01: the score is the number of chosen entries in both lists; `+` ranks before `-` before `0`.
+-- The card's own score and rank, read off the entries. Document 01: the score is the number of chosen entries in both lists, each of which
+-- counts 1; `+` ranks before `-` before `0`.
 -- Assumes nothing: these are definitions.
 use mathlib.Core.Bool.{Bool}
 use mathlib.Core.List.{List, [], _∷_}
@@ -7,17 +8,16 @@ use mathlib.Core.Path.{_≡_, refl}
 use Prim.Native.Nat.{ℕ, _+_}
 use native.Mathlib.Omega.{arith}
 use lib.ListN.{length}
+use Rattle.bases.specs.Pick.{pick}
 use Rattle.donors.specs.Apart.{Pairwise}
-use Rattle.donors.specs.Choice.{Choice, plus, minus, out, copy0, copy1, Variant, cardRules, chosenOf, SpansApart}
+use Rattle.donors.specs.Choice.{Choice, plus, minus, out, copy0, copy1, Variant, chosen?, cardRules, chosenOf, SpansApart}
 use Rattle.donors.specs.Rules.{list1, list2, donorOf}
 use Rattle.matching.specs.Best.{Best, Scoring}
 use Rattle.matching.specs.BestOf.{Covers, Finite, bestOf}
 
--- What a choice counts: 1 if the entry is chosen.
-abbrev pub counts : Choice → ℕ
-counts plus = 1
-counts minus = 1
-counts out = 0
+-- What a choice counts: the entry's weight, if it is chosen.
+abbrev pub counts : Variant → Choice → ℕ
+counts x c = pick (chosen? c) (x .weight) 0
 
 -- `+` before `-` before `0`.
 abbrev pub rankOf : Choice → ℕ
@@ -39,7 +39,7 @@ rank-distinct out out e = refl
 
 -- The card's scoring.
 abbrev pub cardScoring : Scoring Variant Choice
-cardScoring = record { weight = λ x c. counts c; rank = rankOf; distinct = rank-distinct }
+cardScoring = record { weight = counts; rank = rankOf; distinct = rank-distinct }
 
 -- The choices and the copies are all there.
 pub every-choice : Covers (plus ∷ minus ∷ out ∷ [])

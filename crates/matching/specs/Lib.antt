@@ -3,6 +3,7 @@ pub mod Best
 pub mod BestOf
 pub mod Card
 pub mod Cut
+pub mod Fits
 pub mod Legal
 pub mod Made
 pub mod Search

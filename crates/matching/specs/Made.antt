@@ -1,17 +1,15 @@
 -- The search midway: the choices made so far, and what is carried along with them.
 -- Assumes nothing: these are definitions.
-use mathlib.Core.Bool.{Bool, true, false}
+use mathlib.Core.Bool.{Bool}
 use mathlib.Core.List.{List, [], _∷_}
 use mathlib.Core.Option.{Option}
 use mathlib.Core.Path.{_≡_}
-use Prim.Native.Nat.{ℕ}
+use Prim.Native.Nat.{ℕ, zero, suc, _+_}
 use lib.Dec.{T}
-use Rattle.bases.specs.Pick.{pick}
-use Rattle.donors.specs.Choice.{Choice, copy0, Variant, cardRules}
-use Rattle.donors.specs.Donor.{Edit, end}
-use Rattle.donors.specs.Rules.{edits}
+use lib.ListN.{length, drop}
+use Rattle.donors.specs.Choice.{Choice, Variant, cardRules}
+use Rattle.donors.specs.Table.{rowAt}
 use Rattle.matching.specs.declared.answer.Best.{Best}
-use Rattle.matching.specs.declared.ends.Ends.{Ends}
 use Rattle.matching.specs.Answer.{arrayOf, answerOf, theseChoices}
 use Rattle.matching.specs.Best.{score}
 use Rattle.matching.specs.BestOf.{keep?, legal?}
@@ -38,27 +36,18 @@ answerFrom R xs left φ = answerOf xs (cardSearch R xs left φ)
 abbrev pub bestAnswer : List ℕ → List Variant → Best
 bestAnswer R xs = theseChoices xs (cardBest R xs)
 
--- The end of the last edit, or a where there is none.
-unfoldable pub reached : ℕ → List Edit → ℕ
-reached a [] = a
-reached a (e ∷ es) = reached (end e) es
+-- The weights of entries, summed,
+unfoldable pub weights : List Variant → ℕ
+weights [] = 0
+weights (x ∷ xs) = x .weight + weights xs
 
--- Where list j's last chosen entry ends. An entry's span is the same on both copies.
-abbrev pub endOf : Bool → List Variant → List Choice → ℕ
-endOf j xs φ = reached 0 (edits cardRules j copy0 xs φ)
+-- and those of the first n rows of a table.
+unfoldable pub weightsTo : List ℕ → ℕ → ℕ
+weightsTo t zero = 0
+weightsTo t (suc n) = weightsTo t n + rowAt t n .weight
 
--- The end that is carried for list j.
-abbrev pub endBy : Ends → Bool → ℕ
-endBy e true = e .first
-endBy e false = e .second
-
--- The ends after an entry of list j that ends there is chosen.
-abbrev pub endsAfter : Ends → Bool → ℕ → Ends
-endsAfter e j end = record { first = pick j end (e .first); second = pick j (e .second) end }
-
--- The choices made so far do not overlap; they stand in the array, and beside it are the ends of each list and their score.
-pub record Made (xs : List Variant) (φ : List Choice) (choices : List ℕ) (ends : Ends) (total : ℕ) : Type 0 where
+-- The choices made so far do not overlap; they stand in the array, and beside it is their score with every entry left chosen too.
+pub record Made (xs : List Variant) (φ : List Choice) (choices : List ℕ) (top : ℕ) : Type 0 where
   pub array : choices ≡ arrayOf φ
   pub kept : Kept xs φ
-  pub ended : (j : Bool) → endBy ends j ≡ endOf j xs φ
-  pub counted : total ≡ score cardScoring xs φ
+  pub counted : top ≡ score cardScoring xs φ + weights (drop (length φ) xs)

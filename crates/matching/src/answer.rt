@@ -1,8 +1,7 @@
-// The answer of a search, and which of two answers is the better one: the higher score, then dictionary order.
+// The answer of a search, and whether another can be better. The search tries choices in dictionary order: of two answers that score alike
+// the one found first comes first, so that only a higher score is better.
 ghost use mathlib.Core.Path.{_≡_};
-ghost use Prim.Native.Nat.{_≤_};
-ghost use Rattle.donors.specs.Table.{most};
-ghost use Rattle.matching.specs.Answer.{nothingFound, bytesFirst?, beatsBy?, betterOf};
+ghost use Rattle.matching.specs.Answer.{nothingFound, canBeat?};
 use donors::table::MOST;
 
 // What a search found: nothing, or the best choices and their score.
@@ -23,54 +22,12 @@ pub fn nothing() -> Best
     }
 }
 
-// Do the first n choices of c come first in dictionary order, or are they those of d? The bytes `+`, `-` and `0` stand in the order of
-// their ranks.
-pub fn precedes(c: [u8; MOST], d: [u8; MOST], n: usize) -> bool
-    requires { ⌜ n ≤ most ⌝ }
-    ensures { λ r. ⌜ r ≡ bytesFirst? n c d ⌝ }
+// Is an answer of that score better than the best so far?
+pub fn can_beat(score: usize, best: Best) -> bool
+    ensures { λ r. ⌜ r ≡ canBeat? score best ⌝ }
 {
-    let mut i: usize = 0;
-    while i < n {
-        if c[i] < d[i] {
-            return true;
-        }
-        if d[i] < c[i] {
-            return false;
-        }
-        i += 1;
-    }
-    true
-}
-
-// Does answer a score more than b, or as much and its choices come first? Both have n choices.
-pub fn beats(n: usize, a: Best, b: Best) -> bool
-    requires { ⌜ n ≤ most ⌝ }
-    ensures { λ r. ⌜ r ≡ beatsBy? n a b ⌝ }
-{
-    if b.score < a.score {
+    if !best.found {
         return true;
     }
-    if a.score < b.score {
-        return false;
-    }
-    let c = a.choices;
-    let d = b.choices;
-    precedes(c, d, n)
-}
-
-// The better of two answers with n choices.
-pub fn better(n: usize, a: Best, b: Best) -> Best
-    requires { ⌜ n ≤ most ⌝ }
-    ensures { λ r. ⌜ r ≡ betterOf n a b ⌝ }
-{
-    if !a.found {
-        return b;
-    }
-    if !b.found {
-        return a;
-    }
-    if beats(n, a, b) {
-        return a;
-    }
-    b
+    best.score < score
 }

@@ -1,221 +1,141 @@
 // The search for the best choices of a cluster: entry by entry, each choice followed by rank over all remaining entries.
 ghost use mathlib.Core.Path.{_≡_};
 ghost use Prim.Native.Nat.{_-_, _≤_};
-ghost use lib.ListN.{length};
+ghost use lib.Dec.{T};
 ghost use Rattle.bases.specs.Letter.{basesOf};
 ghost use Rattle.donors.specs.Agree.{Ready};
-ghost use Rattle.donors.specs.Table.{variantsFrom, choicesFrom};
-ghost use Rattle.matching.specs.Made.{Kept, cardLegal?, Made, answerFrom, bestAnswer};
+ghost use Rattle.donors.specs.Table.{most, variantsFrom, choicesFrom};
+ghost use Rattle.matching.specs.Answer.{canBeat?, improved};
+ghost use Rattle.matching.specs.Made.{Made, answerFrom, bestAnswer, weightsTo};
 use crate::answer::Best;
-use crate::answer::better;
+use crate::answer::can_beat;
 use crate::answer::nothing;
-use crate::ends::Ends;
-use crate::ends::end_by;
-use crate::ends::ends_after;
+use crate::fits::fits;
+use crate::fits::is_tried;
 use donors::agree::donors_agree;
 use donors::table::MOST;
-use donors::table::row_at;
+use donors::table::TABLE;
+use donors::table::WEIGHT;
+use donors::table::number;
 
-// Are n choices that do not overlap legal? They are exactly if the two lists' donors agree on copy 0 and on copy 1.
-// `mine` and `other` are room to build in: what is left there is not told.
-fn is_legal(
-    reference: &[u8],
-    first: &[u8],
-    second: &[u8],
-    table: &[usize],
-    n: usize,
-    choices: [u8; MOST],
-    from: usize,
-    to: usize,
-    mine: &mut [u8],
-    other: &mut [u8],
-) -> bool
-    requires { ⌜
-        Ready (now reference) (now first) (now second) (now table) n from to (length (now mine)) (length (now other))
-        × Kept (variantsFrom (now reference) (now first) (now second) (now table) 0 n) (choicesFrom choices 0 n)
-        ⌝ }
-    ensures { λ r. ⌜
-        r ≡ cardLegal? (basesOf (now (reference .entry)))
-        (variantsFrom (now (reference .entry)) (now (first .entry)) (now (second .entry)) (now (table .entry)) 0 n)
-        (choicesFrom choices 0 n)
-        ⌝ }
-{
-    let mut copy: usize = 0;
-    while copy < 2 {
-        if !donors_agree(
-            reference,
-            first,
-            second,
-            table,
-            n,
-            choices,
-            copy,
-            from,
-            to,
-            mine,
-            other,
-        ) {
-            return false;
-        }
-        copy += 1;
-    }
-    true
-}
-
-// The best legal choices that go on from those made, with `left` of the n entries left. Beside the choices made go the ends of each list
-// and their score: below a choice that overlaps an earlier one of its list nothing is tried. Nor is a choice that cannot change the answer:
-// no answer scores more than `top`, the score with every entry left chosen, and of equal ones the one tried first is kept. Behind the
-// choices made the array has `0`.
+// The best so far, or the best legal choices that go on from those made, with `left` of the n entries left, where those score more.
+// No answer scores more than `top`, the score with every entry left chosen: where that is no more than the best so far has, nothing is
+// tried. Nor is anything below a choice that overlaps an earlier one of its list. Behind the choices made the array has `0`.
+// What a level keeps is what differs from level to level: this function's frame is on the stack thirteen times.
 fn search(
     reference: &[u8],
     first: &[u8],
     second: &[u8],
-    table: &[usize],
+    table: &[u32; TABLE],
     n: usize,
     left: usize,
-    choices: [u8; MOST],
-    ends: Ends,
-    score: usize,
-    from: usize,
-    to: usize,
-    mine: &mut [u8],
-    other: &mut [u8],
+    mut choices: [u8; MOST],
+    top: usize,
+    mut best: Best,
 ) -> Best
     requires { ⌜
-        Ready (now reference) (now first) (now second) (now table) n from to (length (now mine)) (length (now other))
+        Ready (now reference) (now first) (now second) (now table) n
         × (left ≤ n)
-        × Made (variantsFrom (now reference) (now first) (now second) (now table) 0 n) (choicesFrom choices 0 (n - left)) choices ends score
+        × Made (variantsFrom (now reference) (now first) (now second) (now table) 0 n) (choicesFrom choices 0 (n - left)) choices top
+        × T (canBeat? top best)
         ⌝ }
     ensures { λ r. ⌜
-        r ≡ answerFrom (basesOf (now (reference .entry)))
+        r ≡ improved best (answerFrom (basesOf (now (reference .entry)))
         (variantsFrom (now (reference .entry)) (now (first .entry)) (now (second .entry)) (now (table .entry)) 0 n) left
-        (choicesFrom choices 0 (n - left))
+        (choicesFrom choices 0 (n - left)))
         ⌝ }
 {
     if left == 0 {
-        if is_legal(
-            reference,
-            first,
-            second,
-            table,
-            n,
-            choices,
-            from,
-            to,
-            mine,
-            other,
-        ) {
-            return Best {
-                score,
-                found: true,
-                choices,
-            };
+        if donors_agree(reference, first, second, table, n, &choices, 0) {
+            if donors_agree(reference, first, second, table, n, &choices, 1) {
+                best = Best {
+                    score: top,
+                    found: true,
+                    choices,
+                };
+            }
         }
-        return nothing();
+        return best;
     }
     let at = n - left;
-    let row = row_at(table, at);
-    let top = score + left;
-    let mut best = nothing();
-    if end_by(ends, row.first) <= row.start {
-        let after = ends_after(ends, row.first, row.start + row.len);
-        let mut next = choices;
-        next[at] = b'+';
-        let x = search(
+    if fits(table, &choices, at, b'+') {
+        choices[at] = b'+';
+        best = search(
             reference,
             first,
             second,
             table,
             n,
             left - 1,
-            next,
-            after,
-            score + 1,
-            from,
-            to,
-            mine,
-            other,
+            choices,
+            top,
+            best,
         );
-        if x.score == top {
-            return x;
-        }
-        next[at] = b'-';
-        let y = search(
-            reference,
-            first,
-            second,
-            table,
-            n,
-            left - 1,
-            next,
-            after,
-            score + 1,
-            from,
-            to,
-            mine,
-            other,
-        );
-        best = better(n, x, y);
-        if best.found & (top - 1 <= best.score) {
-            return best;
-        }
+        choices[at] = b'0';
     }
-    let z = search(
-        reference,
-        first,
-        second,
-        table,
-        n,
-        left - 1,
-        choices,
-        ends,
-        score,
-        from,
-        to,
-        mine,
-        other,
-    );
-    better(n, best, z)
+    if is_tried(table, &choices, at, b'-', top, best) {
+        choices[at] = b'-';
+        best = search(
+            reference,
+            first,
+            second,
+            table,
+            n,
+            left - 1,
+            choices,
+            top,
+            best,
+        );
+        choices[at] = b'0';
+    }
+    let rest = top - number(table, at, WEIGHT);
+    if can_beat(rest, best) {
+        best = search(
+            reference,
+            first,
+            second,
+            table,
+            n,
+            left - 1,
+            choices,
+            rest,
+            best,
+        );
+    }
+    best
 }
 
-// The best choices for the first n entries of the table: the highest score, and among equals the first in dictionary order. All entries lie
-// between places `from` and `to` of the reference. Behind the n choices the array has `0`. `mine` and `other` are room to build in: what is
-// left there is not told.
+// The weights of the first n rows, summed.
+fn sum_weights(table: &[u32; TABLE], n: usize) -> usize
+    requires { ⌜ n ≤ most ⌝ }
+    ensures { λ r. ⌜ r ≡ weightsTo (now (table .entry)) n ⌝ }
+{
+    let mut sum: usize = 0;
+    let mut i: usize = 0;
+    while i < n {
+        sum += number(table, i, WEIGHT);
+        i += 1;
+    }
+    sum
+}
+
+// The best choices for the first n entries of the table: the highest score, and among equals the first in dictionary order. Behind the n
+// choices the array has `0`.
 pub fn best_choices(
     reference: &[u8],
     first: &[u8],
     second: &[u8],
-    table: &[usize],
+    table: &[u32; TABLE],
     n: usize,
-    from: usize,
-    to: usize,
-    mine: &mut [u8],
-    other: &mut [u8],
 ) -> Best
-    requires { ⌜ Ready (now reference) (now first) (now second) (now table) n from to (length (now mine)) (length (now other)) ⌝ }
+    requires { ⌜ Ready (now reference) (now first) (now second) (now table) n ⌝ }
     ensures { λ r. ⌜
         r ≡ bestAnswer (basesOf (now (reference .entry)))
         (variantsFrom (now (reference .entry)) (now (first .entry)) (now (second .entry)) (now (table .entry)) 0 n)
         ⌝ }
 {
     let choices = [b'0'; MOST];
-    let ends = Ends {
-        first: 0,
-        second: 0,
-    };
-    search(
-        reference,
-        first,
-        second,
-        table,
-        n,
-        n,
-        choices,
-        ends,
-        0,
-        from,
-        to,
-        mine,
-        other,
-    )
+    let top = sum_weights(table, n);
+    let best = nothing();
+    search(reference, first, second, table, n, n, choices, top, best)
 }

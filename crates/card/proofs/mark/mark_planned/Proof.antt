@@ -6,6 +6,7 @@ use borrow.Author.Needs.{needs}
 use borrow.Author.Tests.{not-true, not-false}
 use Rattle.marks.specs.declared.mark.Marked.{Marked}
 use Rattle.marks.specs.Marks.{clustersOf}
+use Rattle.clusters.proofs.CardClusters.{clusters-plain}
 use Rattle.card.proofs.ScoreLaws.{asked-score}
 use Rattle.card.proofs.mark.mark_planned.Statement.{statement}
 use Rattle.card.proofs.mark.mark_planned.Tie as tie
@@ -54,7 +55,11 @@ cast-give : tie.Need-cast-give
 cast-give c =
     let a = c .before .before .before .before .before .before .before .before .before .before .before .before .before .before .args in
     let e = ap (λ (m : Marked). m .score) (c .before .before .before .before .before .before .before .mark-one .ensures .0) in
-    omega (arith, asked-score (a .reference .now) (clustersOf (a .reference .now) (a .first .now) (a .second .now)) (a .cluster))
+    omega (
+      arith,
+      asked-score (a .reference .now) (clustersOf (a .reference .now) (a .first .now) (a .second .now))
+          (clusters-plain (a .reference .now) (a .first .now) (a .second .now)) (a .cluster),
+    )
 
 give-requires-2 : tie.Need-give-requires-2
 give-requires-2 c κs = search needs

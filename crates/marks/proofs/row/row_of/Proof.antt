@@ -8,10 +8,10 @@ place-of-requires : tie.Need-place-of-requires
 place-of-requires c κs = search needs
 
 stand-of-requires : tie.Need-stand-of-requires
-stand-of-requires c κs = c .before .place-of .ensures
+stand-of-requires c κs = search needs
 
 stand-of-requires-2 : tie.Need-stand-of-requires-2
-stand-of-requires-2 c κs = c .before .before .place-of .ensures
+stand-of-requires-2 c κs = search needs
 
 returns : tie.Need-returns
 returns c = row-is (c .before .before .before .before .before .before .args .item) (c .before .before .before .place-of .ensures) (c .before .stand-of .ensures) (c .stand-of2 .ensures)

@@ -1,0 +1,29 @@
+-- `trials::ready::stands` meets its contract: one case of the test a branch. Assumes nothing.
+use native.Mathlib.Omega.{arith}
+use borrow.Author.Needs.{needs}
+use borrow.Author.Tests.{le-leb}
+use Rattle.trials.proofs.ready.stands.Statement.{statement}
+use Rattle.trials.proofs.ready.stands.Tie as tie
+
+returns : tie.Need-returns
+returns c = rw (c .if1 .taken)
+
+is-within-requires : tie.Need-is-within-requires
+is-within-requires c κs = search needs
+
+returns-2 : tie.Need-returns-2
+returns-2 c =
+    let a = c .before .before .before .before .before .before .args .allele in
+    rw (le-leb 1 (a .len) (omega arith), c .before .if2 .taken) (c .is-within .ensures)
+
+is-within-requires-2 : tie.Need-is-within-requires-2
+is-within-requires-2 c κs = search needs
+
+returns-3 : tie.Need-returns-3
+returns-3 c =
+    let a = c .before .before .before .before .before .before .args .allele in
+    rw (le-leb 1 (a .len) (omega arith), c .before .if2 .left) (c .is-within2 .ensures)
+
+pub stands-spec : {M : Type 1} → statement M
+stands-spec =
+    tie.close (tie.spec returns is-within-requires returns-2 is-within-requires-2 returns-3)
