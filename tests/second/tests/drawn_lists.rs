@@ -5,7 +5,7 @@ mod common;
 
 use common::random::Random;
 use second::drawn::list::Drawn;
-use second::drawn::pairs::{apart, crowd, pair, strangers, worlds_and_crowd};
+use second::drawn::pairs::{apart, crowd, large, pair, strangers, worlds_and_crowd};
 use second::drawn::sizes::{sized_list, sized_reference, sized_text};
 use second::drive::case::{Call, Case};
 use second::drive::draw::{draw, Asked, CALLS};
@@ -54,7 +54,8 @@ fn two_lists_as_drawn_are_accepted_on_one_reference() {
     for seed in 820_000..820_400 {
         let random = &mut Random::new(seed);
         let drawn = [pair(random, 20), crowd(random), strangers(random), apart(random)];
-        for [first, second] in drawn.into_iter().chain([worlds_and_crowd(random)]) {
+        let others = [large(random), worlds_and_crowd(random)];
+        for [first, second] in drawn.into_iter().chain(others) {
             assert_eq!((&first.reference, &first.name), (&second.reference, &second.name));
             assert_eq!(read(&first), Ok(first.records.len()));
             assert_eq!(read(&second), Ok(second.records.len()));

@@ -2,7 +2,7 @@
 //!
 //! - `random` gives numbers from a seed, `lists` makes texts of short records
 //! - `world` draws small references with two lists, of which `rewritten` makes the second from the first
-//! - `repeats` draws repeats and entries in them
+//! - `repeats` draws repeats and entries in them, `large` clusters with long alleles and on long stretches
 //! - `list` draws one list in all its variety, `sizes` one of the sizes where the rules change, `pairs`
 //!   two lists on one reference
 //! - `fault` breaks a chosen row of the table in such a list, `damage` breaks any text anywhere, `mutate`
@@ -10,6 +10,7 @@
 
 pub mod damage;
 pub mod fault;
+pub mod large;
 pub mod list;
 pub mod lists;
 pub mod mutate;

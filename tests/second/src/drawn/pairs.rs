@@ -1,5 +1,6 @@
 //! Two lists on one reference, each in all its variety.
 
+use super::large::large_world;
 use super::list::{any_bases, any_name, Drawn};
 use super::lists::NAME;
 use super::random::Random;
@@ -20,10 +21,12 @@ pub fn worlds(random: &mut Random) -> [Drawn; 2] {
     joined(random, worlds)
 }
 
-/// The same with a crowd among a few worlds: mostly a cluster that is undecided, or just not, beside others.
+/// The same with a crowd or a large cluster among a few worlds: mostly a cluster that is undecided, or just not,
+/// beside others.
 pub fn worlds_and_crowd(random: &mut Random) -> [Drawn; 2] {
     let mut worlds: Vec<World> = (0..random.between(1, 6)).map(|_| World::new(random, 6)).collect();
-    worlds.insert(random.between(0, worlds.len()), crowd_world(random));
+    let crowd = if random.once_in(8) { large_world(random) } else { crowd_world(random) };
+    worlds.insert(random.between(0, worlds.len()), crowd);
     joined(random, worlds)
 }
 
@@ -65,6 +68,12 @@ fn crowd_world(random: &mut Random) -> World {
         list.sort_by_key(|entry| entry.pos);
     }
     World { reference, lists }
+}
+
+/// A cluster of 12 or 13 entries that have long alleles, or lie far from one another, or both.
+pub fn large(random: &mut Random) -> [Drawn; 2] {
+    let World { reference, lists } = large_world(random);
+    pair_of(random, reference, lists)
 }
 
 /// As many entries as two lists can have, or a few fewer, each of them a cluster of its own.

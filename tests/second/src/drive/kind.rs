@@ -2,8 +2,10 @@
 
 use super::case::{Call, Case};
 use super::draw::{Asked, CALLS};
+use super::large;
 use crate::card::ENTRIES_MOST;
 use crate::normal_loop::normal_loop;
+use crate::Cluster;
 use std::fmt::{self, Display};
 
 /// The call, the number and list of its answer and, where it is not refused, what it did.
@@ -31,7 +33,8 @@ const OF_VERSION: [(u32, &str); 1] = [(0, "the header's")];
 
 /// The kinds that the calls of a run can answer.
 pub fn kinds(asked: Asked) -> Vec<Kind> {
-    let (call, answered, of_the_call, lists): (_, &[(u32, &'static str)], &[u32], _) = match asked {
+    type Answered = [(u32, &'static str)];
+    let (call, answered, of_the_call, lists): (_, &Answered, &[u32], _) = match asked {
         Asked::Allele => ("allele", &OF_ALLELE, &[1, 18], 1),
         Asked::Normal => ("normal", &OF_NORMAL, &[1, 2], 1),
         Asked::Plan => ("plan", &OF_PLAN, &[1, 2], 2),
@@ -42,16 +45,22 @@ pub fn kinds(asked: Asked) -> Vec<Kind> {
         Asked::Version => ("version", &OF_VERSION, &[], 0),
         Asked::Mutated => return kinds_of_small_lists(),
     };
-    let answered = answered.iter().map(|(list, what)| (0, *list, *what));
+    let of_large: &Answered = match asked {
+        Asked::Plan => &large::PLANNED,
+        Asked::Mark | Asked::MarkAll => &large::MARKED,
+        _ => &[],
+    };
+    let answered = answered.iter().chain(of_large).map(|(list, what)| (0, *list, *what));
     let of_the_call = of_the_call.iter().map(|number| (*number, 0, ""));
     let of_a_list = (1..=lists).flat_map(|list| (3..=15).map(move |number| (number, list, "")));
     let kind = |(number, list, what)| Kind { call, number, list, what };
     answered.chain(of_the_call).chain(of_a_list).map(kind).collect()
 }
 
-/// Those of every call, but for as many entries as two lists can have.
+/// Those of every call, but for as many entries as two lists can have, and for large clusters.
 fn kinds_of_small_lists() -> Vec<Kind> {
-    CALLS.into_iter().flat_map(|(_, call)| kinds(call)).filter(|kind| kind.what != "full").collect()
+    let is_small = |kind: &Kind| kind.what != "full" && !large::is_large(kind.what);
+    CALLS.into_iter().flat_map(|(_, call)| kinds(call)).filter(is_small).collect()
 }
 
 impl Kind {
@@ -61,9 +70,12 @@ impl Kind {
             Call::Allele { .. } => ("allele", OF_ALLELE[(answer.list == 1) as usize].1),
             Call::Normal { text, .. } if answer.number == 0 => ("normal", normal(case, text)),
             Call::Normal { .. } => ("normal", ""),
-            Call::Plan { .. } => ("plan", OF_PLAN[clusters(answer.values[0])].1),
-            Call::Mark { plan, cluster, .. } if answer.number == 0 => {
-                ("mark", OF_MARK[entries(plan[*cluster].count)].1)
+            Call::Plan { texts, .. } if answer.number == 0 => ("plan", planned(case, texts)),
+            Call::Plan { .. } => ("plan", ""),
+            Call::Mark { texts, plan, cluster, .. } if answer.number == 0 => {
+                let cluster = plan[*cluster];
+                let large = large::marked(case, texts, &[cluster], &case.expected.left[0]);
+                ("mark", large.unwrap_or(OF_MARK[entries(cluster.count)].1))
             }
             Call::Mark { .. } => ("mark", ""),
             Call::Count { texts, .. } if answer.number == 0 => ("count", counted(case, texts)),
@@ -115,13 +127,27 @@ fn counted(case: &Case, texts: &[Vec<u8>; 2]) -> &'static str {
 
 fn marked(case: &Case, texts: &[Vec<u8>; 2]) -> &'static str {
     let entries = positions(case, texts).iter().map(Vec::len).sum();
+    let marks = &case.expected.left[1];
     let what = match entries {
         0 => 0,
         ENTRIES_MOST => 3,
-        _ if case.expected.left[1][..entries].contains(&b'?') => 2,
+        _ if marks[..entries].contains(&b'?') => 2,
         _ => 1,
     };
-    OF_MARK_ALL[what].1
+    large::marked(case, texts, &left_plan(case), marks).unwrap_or(OF_MARK_ALL[what].1)
+}
+
+fn planned(case: &Case, texts: &[Vec<u8>; 2]) -> &'static str {
+    let plan = left_plan(case);
+    large::planned(case, texts, &plan).unwrap_or(OF_PLAN[clusters(plan.len())].1)
+}
+
+/// The records of the plan that an answered call left.
+fn left_plan(case: &Case) -> Vec<Cluster> {
+    let number = |bytes: &[u8]| u32::from_le_bytes(bytes.try_into().expect("four bytes"));
+    let record = |bytes: &[u8]| Cluster { first: number(&bytes[..4]), count: number(&bytes[4..]) };
+    let records = case.expected.left[0].chunks(8).map(record);
+    records.take(case.expected.answer.values[0] as usize).collect()
 }
 
 fn listed(case: &Case, texts: &[Vec<u8>; 2]) -> &'static str {
@@ -136,10 +162,10 @@ fn listed(case: &Case, texts: &[Vec<u8>; 2]) -> &'static str {
     OF_ENTRIES[what].1
 }
 
-fn clusters(count: u32) -> usize {
+fn clusters(count: usize) -> usize {
     match count {
-        0 | 1 => count as usize,
-        1_024 => 3,
+        0 | 1 => count,
+        ENTRIES_MOST => 3,
         _ => 2,
     }
 }

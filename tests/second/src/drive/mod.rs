@@ -6,7 +6,7 @@
 //! - `draw` draws case after case from a seed
 //! - `frame` is what is sent to the driver for a case, and what it tells
 //! - `pipe` sends the cases to the driver and takes its answers
-//! - `kind` says what kind of answer a case has
+//! - `kind` says what kind of answer a case has, `large` which clusters are large
 //! - `tally` counts the kinds that were answered and keeps the smallest differences
 
 pub mod case;
@@ -14,5 +14,6 @@ pub mod draw;
 mod expected;
 pub mod frame;
 pub mod kind;
+mod large;
 pub mod pipe;
 pub mod tally;

@@ -1,16 +1,18 @@
 //! How much a search may have to try, so that few calls are made that take long.
 
 use super::two_lists::TwoLists;
+use crate::best::is_legal;
+use crate::choice::Choice;
 use crate::clusters::{clusters, lists_of, DECIDED_MOST};
-use crate::merged::merged;
+use crate::merged::{merged, Lists};
 use crate::{Cluster, Entry};
 
 /// A cluster of more strings of choices without an overlap is searched only once in `COSTLY` times.
 pub const STRINGS_MOST: usize = 7_000;
 pub const COSTLY: usize = 20;
 
-/// For each cluster of these lists how many strings of choices have no overlap: so many are tried for it,
-/// none for an undecided one. Lists that are refused have no cluster.
+/// For each cluster of these lists how many strings of choices have no overlap: so many are tried for it, none
+/// for an undecided one, and one where all of it matches as written. Lists that are refused have no cluster.
 pub fn strings(two: &TwoLists) -> Vec<usize> {
     let TwoLists { reference, name, texts } = two;
     let [Ok(first), Ok(second)] =
@@ -21,13 +23,24 @@ pub fn strings(two: &TwoLists) -> Vec<usize> {
     let entries = [first.entries(), second.entries()];
     let lists = entries.each_ref().map(Vec::as_slice);
     let items = merged(lists);
-    let strings = |cluster: &Cluster| match cluster.count as usize > DECIDED_MOST {
-        true => 0,
-        false => {
-            lists_of(lists, &items, *cluster).map(|list| strings_from(list, 0)).iter().product()
+    let strings = |cluster: &Cluster| {
+        if cluster.count as usize > DECIDED_MOST {
+            return 0;
+        }
+        let lists = lists_of(lists, &items, *cluster);
+        let strings = lists.map(|list| strings_from(list, 0)).iter().product();
+        match strings > STRINGS_MOST && all_match(reference, lists) {
+            true => 1,
+            false => strings,
         }
     };
     clusters(reference, lists).iter().map(strings).collect()
+}
+
+/// Whether the first string, which chooses every entry as written, is legal.
+fn all_match(reference: &[u8], lists: Lists) -> bool {
+    let items = merged(lists);
+    is_legal(reference, lists, &items, &vec![Choice::Plus; items.len()])
 }
 
 /// The strings of choices for entries of one list, none of which may start before `end`.

@@ -4,7 +4,7 @@ use super::any_room;
 use super::spoil::{other_name, spoil_reference, spoiled_text};
 use crate::card::ENTRIES_MOST;
 use crate::drawn::list::Drawn;
-use crate::drawn::pairs::{apart, crowd, pair, sized_pair, strangers};
+use crate::drawn::pairs::{apart, crowd, large, pair, sized_pair, strangers};
 use crate::drawn::random::Random;
 use crate::drive::case::{Call, Case};
 use crate::Cluster;
@@ -48,6 +48,7 @@ pub fn lists(random: &mut Random) -> [Drawn; 2] {
         10..=39 => crowd(random),
         40..=59 => pair(random, 40),
         60..=99 => strangers(random),
+        100..=127 => large(random),
         _ => pair(random, 10),
     }
 }
