@@ -4,7 +4,8 @@
 mod drawn;
 mod ready;
 
-ghost use Prim.Native.Nat.{_≤_};
+ghost use mathlib.Core.Path.{_≡_};
+ghost use Prim.Native.Nat.{min};
 use bases::bytes::same_bytes;
 use donors::table::MOST;
 use donors::table::TABLE;
@@ -17,9 +18,9 @@ fn print_none() {
     io::write_all(STDOUT_FILENO, b"no such cluster\n");
 }
 
-// The smaller of the two: no more than the rows that were tested.
+// The smaller of the two.
 fn smaller(a: usize, b: usize) -> usize
-    ensures { λ r. ⌜ r ≤ a ⌝ }
+    ensures { λ r. ⌜ r ≡ min a b ⌝ }
 {
     if a <= b {
         return a;

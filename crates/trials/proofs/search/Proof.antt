@@ -2,6 +2,7 @@
 use mathlib.Core.Path.{sym, _∙_}
 use borrow.Author.Needs.{needs}
 use borrow.Author.Tests.{not-false}
+use native.Mathlib.Omega.{arith}
 use Rattle.trials.proofs.ReadyLaws.{ready}
 use Rattle.trials.proofs.search.Statement.{statement}
 use Rattle.trials.proofs.search.Tie as tie
@@ -26,7 +27,7 @@ best-choices-requires c κs =
     let passed = c .before .before .before in
     let test = passed .before in
     let n = test .before .before .before .put-rows .result in
-    ready _ _ _ _ n (c .smaller .result) (sym (test .is-ready .ensures) ∙ not-false _ (passed .if1 .left)) (c .smaller .ensures)
+    ready _ _ _ _ n (c .smaller .result) (sym (test .is-ready .ensures) ∙ not-false _ (passed .if1 .left)) (omega (arith, c .smaller .ensures))
 
 print-decimal-requires : tie.Need-print-decimal-requires
 print-decimal-requires c κs = search needs
