@@ -1,4 +1,5 @@
 pub mod Determines
+pub mod FirstLaws
 pub mod LetterLaws
 pub mod NearestLaws
 pub mod PartLaws

@@ -1,3 +1,4 @@
+pub mod First
 pub mod Letter
 pub mod Nearest
 pub mod Period
