@@ -12,12 +12,12 @@ use mathlib.Core.Path.{_≡_, sym, ap, _∙_}
 use Prim.Native.Nat.{ℕ, zero, suc, _+_, _-_, _≤_, _<_}
 use native.Mathlib.Decide.{decLt}
 use native.Mathlib.Omega.{arith}
-use borrow.Author.Tests.{ltb-false, not-false}
+use borrow.Author.Tests.{not-false}
 use lib.Dec.{T, eqb, leb, leb→le}
 use lib.ListN.{length, take, drop, getD, length-drop}
 use lib.Seq.{length-take-le}
 use Rattle.bases.specs.declared.place.Pos.{Pos}
-use Rattle.bases.specs.Letter.{allLetters?, basesOf}
+use Rattle.bases.specs.Letter.{basesOf}
 use Rattle.bases.proofs.LetterLaws.{bases-length}
 use Rattle.bases.proofs.TestLaws.{of-true, both, neither}
 use Rattle.bases.specs.Pick.{pick}
@@ -35,7 +35,8 @@ use Rattle.vcf.proofs.AcceptedLaws.{Records, RecordsFrom, records-here, records
 use Rattle.fields.proofs.BytesLaws.{until-le}
 use Rattle.vcf.proofs.EntryLaws.{entriesAt, entries-at, entries-past}
 use Rattle.vcf.proofs.PartLaws.{first-within, second-within, first-bytes, second-bytes}
-use Rattle.records.proofs.RecordLineLaws.{RecordLine, record-line, first-allele, second-allele}
+use Rattle.fields.proofs.AlleleLaws.{allele-iff}
+use Rattle.records.proofs.RecordLineLaws.{RecordLine, record-line, record-order}
 use Rattle.clusters.specs.Item.{startOf, alleleOf, lenOf, Sound}
 use Rattle.clusters.proofs.MergedLaws.{SortedBy}
 
@@ -54,9 +55,7 @@ copies-named n g e =
     (digit-to n (getD g 0 0) (m .0), digit-to n (getD g 2 0) (both s d1 .0 (m .1) .1))
 
 allele-size : (x : List ℕ) → T (isAllele? x) → (1 ≤ length x) × (length x ≤ longestAllele)
-allele-size x t =
-    let k = both (leb 1 (length x)) (leb (length x) longestAllele && allLetters? x) .0 t in
-    (leb→le 1 (length x) (k .0), leb→le (length x) longestAllele (both (leb (length x) longestAllele) (allLetters? x) .0 (k .1) .0))
+allele-size x t = let s = allele-iff x .0 t in (s .0, s .1)
 
 -- a part that ends within is as long as it says
 part-size : (t : List ℕ) (at len : ℕ) → at + len ≤ length t → length (basesOf (take len (drop at t))) ≡ len
@@ -82,11 +81,11 @@ module _ (reference t : List ℕ) (a : ℕ) (inside : a < length t) (line : Reco
   allele-sized zero h = allele-size (field 3 (lineAt t a)) (line .ref)
   allele-sized (suc zero) h =
       let f = field 4 (lineAt t a) in
-      let z = allele-size (firstAlt f) (first-allele (field 3 (lineAt t a)) f (line .alts)) in
+      let z = allele-size (firstAlt f) (line .alts .first) in
       omega (arith, length-take-le (until COMMA f) f (until-le COMMA f))
   allele-sized (suc (suc k)) h =
       let f = field 4 (lineAt t a) in
-      let z = allele-size (secondAlt f) (second-allele (field 3 (lineAt t a)) f (line .alts) (two k h)) in
+      let z = allele-size (secondAlt f) (line .alts .second (two k h)) in
       omega (arith, length-drop (until COMMA f + 1) f)
 
   pub ref-allele : alleleOf reference t (entryOf (lineAt t a) a) 0 ≡ basesOf (field 3 (lineAt t a))
@@ -139,7 +138,7 @@ module _ (reference name t : List ℕ) where
   unfolding entriesFrom
   entries-above records last a m [] r h = tt
   entries-above records last a m (l ∷ ls) r h =
-      let k = ltb-false (posOn l .0) (last .0) (r .0 .1 .1 .1 .1 .1 .1 .1 .1 .1 .1 .1 .0) in
+      let k = record-order reference name records last l (r .0) in
       (omega arith, entries-above (records + 1) (posOn l) (a + length l + 1) m ls (r .1) (omega arith))
 
   lines-sorted : (records : ℕ) (last : Pos) (a : ℕ) (ls : List (List ℕ)) → Records reference name records last ls → SortedBy (λ (e : Entry). e .pos .0) (entriesFrom a ls)

@@ -8,10 +8,10 @@ use denote.Ref.{now}
 use Rattle.bases.proofs.Determines.{OneResult, OneSeen}
 use Rattle.fields.proofs.allele.alt_count.Kinds as alt-count-kinds
 use Rattle.fields.proofs.allele.alt_count.Reads as alt-count
-use Rattle.fields.proofs.allele.alts_wrong.Kinds as alts-wrong-kinds
-use Rattle.fields.proofs.allele.alts_wrong.Reads as alts-wrong
 use Rattle.fields.proofs.allele.is_allele.Kinds as is-allele-kinds
 use Rattle.fields.proofs.allele.is_allele.Reads as is-allele
+use Rattle.fields.proofs.allele.is_right_size.Kinds as is-right-size-kinds
+use Rattle.fields.proofs.allele.is_right_size.Reads as is-right-size
 use Rattle.fields.proofs.bytes.begins.Kinds as begins-kinds
 use Rattle.fields.proofs.bytes.begins.Reads as begins
 use Rattle.fields.proofs.bytes.find.Kinds as find-kinds
@@ -39,14 +39,14 @@ use Rattle.fields.proofs.pos.is_digit.Reads as is-digit
 use Rattle.fields.proofs.pos.read_pos.Kinds as read-pos-kinds
 use Rattle.fields.proofs.pos.read_pos.Reads as read-pos
 
+pub is-right-size-determines : OneResult 1 is-right-size-kinds.ps is-right-size-kinds.r is-right-size.Post
+is-right-size-determines κs a z z′ e e′ p q = p ∙ sym q
+
 pub is-allele-determines : OneResult 1 is-allele-kinds.ps is-allele-kinds.r is-allele.Post
 is-allele-determines κs a z z′ e e′ p q = p ∙ sym q
 
 pub alt-count-determines : OneResult 1 alt-count-kinds.ps alt-count-kinds.r alt-count.Post
 alt-count-determines κs a z z′ e e′ p q = p ∙ sym q
-
-pub alts-wrong-determines : OneResult 2 alts-wrong-kinds.ps alts-wrong-kinds.r alts-wrong.Post
-alts-wrong-determines κs a z z′ e e′ p q = p ∙ sym q
 
 pub find-determines : OneResult 1 find-kinds.ps find-kinds.r find.Post
 find-determines κs a z z′ e e′ p q = p ∙ sym q

@@ -18,6 +18,7 @@ use Rattle.fields.specs.Field.{fieldAt, fieldFrom, field, fieldCount, tenFields
 use Rattle.fields.specs.Header.{headerWrong?}
 use Rattle.vcf.specs.List.{linesOf, above, nextStage, lineRows, judgeLines, judgeText}
 use Rattle.records.specs.Record.{longestLine, tooLong?, chromWrong?, recordRows}
+use Rattle.bases.specs.First.{firstTold}
 use Rattle.records.specs.Row.{Row, row, firstRow}
 
 other : (a b : List ℕ) → (length a ≡ length b → ⊥) → not (same? a b) ≡ true
@@ -35,7 +36,7 @@ module _ (name : List ℕ) (long : longestLine < length name) where
 
   line-same : (l : List ℕ) (a b : Row) (more : List Row) (t4 : Bool) → tooLong? l ≡ t4 → (t6 : Bool) → tenFields? l ≡ t6
       → firstRow (row 4 t4 ∷ a ∷ b ∷ row 6 (not t6) ∷ row 7 (chromWrong? name l) ∷ more) ≡ firstRow (row 4 t4 ∷ a ∷ b ∷ row 6 (not t6) ∷ row 7 (chromWrong? [] l) ∷ more)
-  unfolding firstRow
+  unfolding firstTold
   line-same l a b more true e t6 e6 = refl
   line-same l a b more false e false e6 = refl
   line-same l a b more false e true e6 = rw (long-wrong l e, empty-wrong l e6)

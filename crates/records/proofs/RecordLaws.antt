@@ -5,8 +5,8 @@
 --     no-alt                         its copies are 0 where its digits are
 --     off-past, off-within           row 13, by whether REF runs past the reference
 --     record-ten                     a line on which no row holds has ten fields
---     sample-read, copies-read, reference-read, format-read, alts-read, genotype-read, alt-read
---                                    the genotype, REF, FORMAT and the number of ALTs that are read off it, and rows 11 and 10 by them
+--     sample-read, copies-read, reference-read, format-read, alts-read, genotype-read
+--                                    the genotype, REF, FORMAT and the number of ALTs that are read off it, and row 11 by them
 -- Assumes nothing.
 use mathlib.Core.Bool.{Bool, true, false, not, _&&_}
 use mathlib.Core.List.{List}
@@ -21,12 +21,12 @@ use Rattle.bases.specs.declared.place.Pos.{Pos}
 use Rattle.bases.specs.Place.{placeOf}
 use Rattle.bases.specs.Same.{sameBases?}
 use Rattle.bases.proofs.TestLaws.{both, of-true}
-use Rattle.fields.specs.Allele.{altCount, altsWrong?}
+use Rattle.fields.specs.Allele.{altCount}
 use Rattle.fields.specs.declared.field.Fields.{Fields}
 use Rattle.fields.specs.Field.{fieldFrom, field, tenFields?, fieldsOf}
 use Rattle.fields.specs.Genotype.{formatWrong?, genotype, separator?, digitTo?, copiesWrong?, copy0, copy1}
 use Rattle.fields.specs.Pos.{digit?}
-use Rattle.records.specs.Record.{altWrong?, genotypeOn, genotypeWrong?, noAlt?, offReference?, recordRows}
+use Rattle.records.specs.Record.{genotypeOn, genotypeWrong?, noAlt?, offReference?, recordRows}
 use Rattle.records.specs.Row.{firstRow}
 use Rattle.records.proofs.RowLaws.{none-holds, record-rows-numbered}
 
@@ -84,7 +84,7 @@ pub off-within : (r : List ℕ) (pos : Pos) (a : List ℕ) → placeOf pos .0 + 
 off-within r pos a h = rw (le-leb _ _ h)
 
 -- where no row of a record's line holds, the line has its ten fields
-pub record-ten : (r name : List ℕ) (records : ℕ) (last : Pos) (l : List ℕ) → firstRow (recordRows r name records last l) ≡ 0 → T (tenFields? l)
+pub record-ten : (r name : List ℕ) (records : ℕ) (last : Pos) (l : List ℕ) → firstRow (recordRows r name records last l) .number ≡ 0 → T (tenFields? l)
 record-ten r name records last l e =
     let none = none-holds (recordRows r name records last l) (record-rows-numbered r name records last l) e in
     of-true {t = tenFields? l} (not-false (tenFields? l) (none .1 .1 .1 .0))
@@ -113,7 +113,3 @@ copies-read l right e = subst Copies (sym e) (genotype-right l right)
 -- row 12, by the genotype that is read
 pub no-alt-read : (l : List ℕ) {g : List ℕ} → g ≡ genotypeOn l → Copies g → eqb (getD g 0 0) 48 && eqb (getD g 2 0) 48 ≡ noAlt? l
 no-alt-read l {g} e w = no-alt g w ∙ ap (λ (x : List ℕ). eqb (copy0 x) 0 && eqb (copy1 x) 0) e
-
--- row 10, by REF and ALT that are read
-pub alt-read : (l : List ℕ) {f : Fields} {bases alt : List ℕ} {b : Bool} → f ≡ fieldsOf l → bases ≡ fieldFrom l (f .reference) → alt ≡ fieldFrom l (f .alt) → b ≡ altsWrong? bases alt → b ≡ altWrong? l
-alt-read l e r a h = cc

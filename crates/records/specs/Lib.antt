@@ -1,2 +1,3 @@
+pub mod Alt
 pub mod Record
 pub mod Row

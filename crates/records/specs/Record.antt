@@ -1,18 +1,19 @@
--- The rows that are tried on a record's line, in order: 4, 5, 15, then 6 to 14. Each row has its test.
+-- The rows that are tried on a record's line, in order: 4, 5, 15, 6 to 9, 20 to 23, 11 to 14. Each row has its test.
 -- Assumes nothing: these are definitions.
 use mathlib.Core.Bool.{Bool, not, _&&_, _||_}
-use mathlib.Core.List.{List, [], _∷_}
+use mathlib.Core.List.{List, [], _∷_, _++_}
 use Prim.Native.Nat.{ℕ, _+_}
 use lib.Dec.{eqb, leb, ltb}
 use lib.ListN.{length, take, drop}
 use Rattle.bases.specs.declared.place.Pos.{Pos}
 use Rattle.bases.specs.Place.{placeOf}
 use Rattle.bases.specs.Same.{same?, sameBases?}
-use Rattle.fields.specs.Allele.{isAllele?, altCount, altsWrong?}
+use Rattle.fields.specs.Allele.{isAllele?, altCount}
 use Rattle.fields.specs.Bytes.{hash, begins?}
 use Rattle.fields.specs.Field.{field, tenFields?}
 use Rattle.fields.specs.Genotype.{formatWrong?, genotype, copiesWrong?, copy0, copy1}
 use Rattle.fields.specs.Pos.{noPos, readPos}
+use Rattle.records.specs.Alt.{altRows}
 use Rattle.records.specs.Row.{Row, row}
 
 abbrev pub longestLine : ℕ
@@ -37,10 +38,6 @@ posOn l = readPos (field 1 l)
 abbrev pub refWrong? : List ℕ → Bool
 refWrong? l = not (isAllele? (field 3 l))
 
--- Row 10: ALT is wrong.
-abbrev pub altWrong? : List ℕ → Bool
-altWrong? l = altsWrong? (field 3 l) (field 4 l)
-
 -- The genotype of a line.
 abbrev pub genotypeOn : List ℕ → List ℕ
 genotypeOn l = genotype (field 9 l)
@@ -58,18 +55,22 @@ abbrev pub offReference? : List ℕ → Pos → List ℕ → Bool
 offReference? reference pos ref =
     not (leb (placeOf pos .0 + length ref) (length reference) && sameBases? ref (take (length ref) (drop (placeOf pos .0) reference)))
 
--- The rows on the fields of a line, behind a record at POS `last` (`noPos` where there is none).
+-- The rows on the fields behind ALT, and on where REF lies, behind a record at POS `last` (`noPos` where there is none).
+abbrev pub laterRows : List ℕ → Pos → List ℕ → List Row
+laterRows reference last l =
+    row 11 (genotypeWrong? l)
+    ∷ row 12 (noAlt? l)
+    ∷ row 13 (offReference? reference (posOn l) (field 3 l))
+    ∷ row 14 (ltb (posOn l .0) (last .0))
+    ∷ []
+
+-- The rows on the fields of a line: 7, 8, 9, those on ALT, and the later ones.
 abbrev pub fieldRows : List ℕ → List ℕ → Pos → List ℕ → List Row
 fieldRows reference name last l =
     row 7 (chromWrong? name l)
     ∷ row 8 (eqb (posOn l .0) (noPos .0))
     ∷ row 9 (refWrong? l)
-    ∷ row 10 (altWrong? l)
-    ∷ row 11 (genotypeWrong? l)
-    ∷ row 12 (noAlt? l)
-    ∷ row 13 (offReference? reference (posOn l) (field 3 l))
-    ∷ row 14 (ltb (posOn l .0) (last .0))
-    ∷ []
+    ∷ (altRows l ++ laterRows reference last l)
 
 -- The rows on a line below the column line, behind so many records, the last at POS `last`.
 abbrev pub recordRows : List ℕ → List ℕ → ℕ → Pos → List ℕ → List Row

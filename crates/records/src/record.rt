@@ -1,18 +1,19 @@
-// The rows on a record's line, in their order: 4, 5, 15, then 6 to 14. One function a row.
+// The rows on a record's line, in their order: 4, 5, 15, 6 to 9, 20 to 23 (alt.rt), 11 to 14. One function a row.
 ghost use mathlib.Core.Bool.{false};
 ghost use mathlib.Core.Path.{_≡_};
 ghost use Prim.Native.Nat.{_≤_};
 ghost use lib.Dec.{T};
 ghost use Rattle.fields.specs.Field.{field, tenFields?, fieldsOf};
-ghost use Rattle.records.specs.Record.{tooLong?, chromWrong?, posOn, refWrong?, altWrong?, genotypeWrong?, noAlt?, offReference?};
-ghost use Rattle.records.specs.Record.{fieldRows, recordRows};
+ghost use Rattle.records.specs.Record.{tooLong?, chromWrong?, posOn, refWrong?, genotypeWrong?, noAlt?, offReference?};
+ghost use Rattle.records.specs.Record.{laterRows, fieldRows, recordRows};
 ghost use Rattle.records.specs.Row.{firstRow};
+use crate::alt::alt_fault;
+use crate::row::LineFault;
 use bases::bytes::same_bytes;
 use bases::place::Pos;
 use bases::place::place_of;
 use bases::same::same_bases;
 use fields::allele::alt_count;
-use fields::allele::alts_wrong;
 use fields::allele::is_allele;
 use fields::bytes::begins;
 use fields::field::Fields;
@@ -66,19 +67,6 @@ fn ref_wrong(line: &[u8], fields: Fields) -> bool
 {
     let at = fields.reference;
     !is_allele(field_from(line, at))
-}
-
-// Row 10: is ALT wrong?
-fn alt_wrong(line: &[u8], fields: Fields) -> bool
-    requires { ⌜
-        T (tenFields? (now line))
-        × (fields ≡ fieldsOf (now line))
-        ⌝ }
-    ensures { λ r. ⌜ r ≡ altWrong? (now (line .entry)) ⌝ }
-{
-    let ref_at = fields.reference;
-    let alt_at = fields.alt;
-    alts_wrong(field_from(line, ref_at), field_from(line, alt_at))
 }
 
 // Row 11: is FORMAT or the genotype wrong?
@@ -136,55 +124,75 @@ fn is_off_reference(reference: &[u8], pos: Pos, line: &[u8], fields: Fields) -> 
     !same_bases(bases, &reference[from..end])
 }
 
-// The first row from 7 to 14 that holds on a line of ten fields, behind a record at POS `last`; or 0.
-fn field_fault(reference: &[u8], name: &[u8], last: Pos, line: &[u8]) -> u32
+// The first row from 11 to 14 that holds on a line of ten fields at this POS, behind a record at POS `last`; or none.
+fn later_fault(reference: &[u8], pos: Pos, last: Pos, line: &[u8], fields: Fields) -> LineFault
+    requires { ⌜
+        T (tenFields? (now line))
+        × (fields ≡ fieldsOf (now line))
+        × (pos ≡ posOn (now line))
+        × (1 ≤ pos .0)
+        ⌝ }
+    ensures { λ r. ⌜ r ≡ firstRow (laterRows (now (reference .entry)) last (now (line .entry))) ⌝ }
+{
+    if genotype_wrong(line, fields) {
+        return LineFault { number: 11, at: 0 };
+    }
+    if has_no_alt(line, fields) {
+        return LineFault { number: 12, at: 0 };
+    }
+    if is_off_reference(reference, pos, line, fields) {
+        return LineFault { number: 13, at: 0 };
+    }
+    if pos.0 < last.0 {
+        return LineFault { number: 14, at: 0 };
+    }
+    LineFault { number: 0, at: 0 }
+}
+
+// The first row that holds on the fields of a line of ten, behind a record at POS `last`; or none.
+fn field_fault(reference: &[u8], name: &[u8], last: Pos, line: &[u8]) -> LineFault
     requires { ⌜ T (tenFields? (now line)) ⌝ }
     ensures { λ r. ⌜ r ≡ firstRow (fieldRows (now (reference .entry)) (now (name .entry)) last (now (line .entry))) ⌝ }
 {
     if chrom_wrong(name, line) {
-        return 7;
+        return LineFault { number: 7, at: 0 };
     }
     let fields = fields_of(line);
     let pos = pos_on(line, fields);
     if pos.0 == 0 {
-        return 8;
+        return LineFault { number: 8, at: 0 };
     }
     if ref_wrong(line, fields) {
-        return 9;
+        return LineFault { number: 9, at: 0 };
     }
-    if alt_wrong(line, fields) {
-        return 10;
+    let alt = alt_fault(line, fields);
+    if alt.number != 0 {
+        return alt;
     }
-    if genotype_wrong(line, fields) {
-        return 11;
-    }
-    if has_no_alt(line, fields) {
-        return 12;
-    }
-    if is_off_reference(reference, pos, line, fields) {
-        return 13;
-    }
-    if pos.0 < last.0 {
-        return 14;
-    }
-    0
+    later_fault(reference, pos, last, line, fields)
 }
 
-// The first row that holds on a line below the column line, behind so many records, the last at POS `last`; or 0.
-pub fn record_fault(reference: &[u8], name: &[u8], records: usize, last: Pos, line: &[u8]) -> u32
+// The first row that holds on a line below the column line, behind so many records, the last at POS `last`; or none.
+pub fn record_fault(
+    reference: &[u8],
+    name: &[u8],
+    records: usize,
+    last: Pos,
+    line: &[u8],
+) -> LineFault
     ensures { λ r. ⌜ r ≡ firstRow (recordRows (now (reference .entry)) (now (name .entry)) records last (now (line .entry))) ⌝ }
 {
     if is_too_long(line) {
-        return 4;
+        return LineFault { number: 4, at: 0 };
     }
     if begins(b"#", line) {
-        return 5;
+        return LineFault { number: 5, at: 0 };
     }
     if MOST_RECORDS <= records {
-        return 15;
+        return LineFault { number: 15, at: 0 };
     }
     if !has_ten_fields(line) {
-        return 6;
+        return LineFault { number: 6, at: 0 };
     }
     field_fault(reference, name, last, line)
 }

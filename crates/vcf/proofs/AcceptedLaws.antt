@@ -14,7 +14,7 @@ use Prim.Native.Nat.{ℕ, zero, suc, _+_, _-_, _≤_, _<_}
 use native.Mathlib.Decide.{decLt, ℕ-discrete}
 use native.Mathlib.Nat.{zero-add}
 use native.Mathlib.Omega.{arith}
-use borrow.Author.Tests.{leb-false, ltb-false}
+use borrow.Author.Tests.{leb-false}
 use lib.Dec.{T, not-T}
 use lib.ListN.{length, drop}
 use Rattle.bases.specs.declared.place.Pos.{Pos}
@@ -29,8 +29,9 @@ use Rattle.records.specs.Record.{mostRecords, posOn, genotypeWrong?, recordRows
 use Rattle.records.specs.Row.{Row, firstRow}
 use Rattle.vcf.proofs.EntryLaws.{header-stop, header-more, skip-lines-zero, skip-lines-past, skip-lines-more, skip-lines-next}
 use Rattle.vcf.proofs.ListLaws.{lines-at, lines-past, next-header, next-column, judge-stop, judge-more, judge-end-above, line-rows-numbered}
-use Rattle.records.proofs.RecordLineLaws.{RecordLine, record-line}
-use Rattle.records.proofs.RowLaws.{NoneHolds, none-holds}
+use Rattle.records.proofs.RecordLineLaws.{RecordLine, record-line, record-order}
+use Rattle.bases.proofs.FirstLaws.{NoneHolds}
+use Rattle.records.proofs.RowLaws.{none-holds}
 
 entries-length : (a : ℕ) (ls : List (List ℕ)) → length (entriesFrom a ls) ≡ length ls
 unfolding entriesFrom
@@ -52,12 +53,12 @@ module _ (reference name : List ℕ) where
   -- lines that are met below the column line
   below-records : (records : ℕ) (last : Pos) (n : ℕ) (ls : List (List ℕ)) → judgeLines reference name (belowAt records last) n ls .number ≡ 0 → Records records last ls
   below-records records last n [] e = tt
-  below-records records last n (l ∷ ls) e = go (ℕ-discrete (firstRow rows) 0) (below-records (records + 1) (posOn l) (n + 1) ls)
+  below-records records last n (l ∷ ls) e = go (ℕ-discrete (firstRow rows .number) 0) (below-records (records + 1) (posOn l) (n + 1) ls)
     where
       rows : List Row
       rows = recordRows reference name records last l
 
-      go : Dec (firstRow rows ≡ 0) → (judgeLines reference name (belowAt (records + 1) (posOn l)) (n + 1) ls .number ≡ 0 → Records (records + 1) (posOn l) ls)
+      go : Dec (firstRow rows .number ≡ 0) → (judgeLines reference name (belowAt (records + 1) (posOn l)) (n + 1) ls .number ≡ 0 → Records (records + 1) (posOn l) ls)
           → NoneHolds (recordRows reference name records last l) × Records (records + 1) (posOn l) ls
       go (yes z) r = (
         none-holds rows (line-rows-numbered reference name (belowAt records last) n l) z,
@@ -81,7 +82,7 @@ module _ (reference name : List ℕ) where
       l : List ℕ
       l = lineAt t a
 
-      by-row : a < length t → Dec (firstRow (lineRows reference name above n l) ≡ 0) → judgeLines reference name (nextStage above l) (n + 1) (linesOf (drop (nextLine t a) t)) .number ≡ 0
+      by-row : a < length t → Dec (firstRow (lineRows reference name above n l) .number ≡ 0) → judgeLines reference name (nextStage above l) (n + 1) (linesOf (drop (nextLine t a) t)) .number ≡ 0
       by-row k (yes z) = rw (lines-at t a k, judge-more reference name above n l (linesOf (drop (nextLine t a) t)) z) at e
       by-row k (no z) = absurd (z (rw (lines-at t a k, judge-stop reference name above n l (linesOf (drop (nextLine t a) t)) z) at e))
 
@@ -91,14 +92,14 @@ module _ (reference name : List ℕ) where
       by-line k false b z r = rw (header-stop t a k b) (below-records 0 noPos (n + 1) (linesOf (drop (nextLine t a) t)) (rw (next-column above l refl b) at z))
 
       go : Dec (a < length t) → (judgeLines reference name above (n + 1) (linesOf (drop (nextLine t a) t)) .number ≡ 0 → Rest (nextLine t a)) → Rest a
-      go (yes k) r = by-line k (headerLine? l) refl (by-row k (ℕ-discrete (firstRow (lineRows reference name above n l)) 0)) r
+      go (yes k) r = by-line k (headerLine? l) refl (by-row k (ℕ-discrete (firstRow (lineRows reference name above n l) .number) 0)) r
       go (no k) r = absurd (above-end t a n (omega arith) e)
 
   accepted-clear : (t : List ℕ) → judgeText reference name t .number ≡ 0 → Records 0 noPos (linesOf (drop (recordsAt t) t))
   unfolding judgeText
   accepted-clear t e = go (textWrong? t) e
     where
-      go : (b : Bool) → pick b (fault 3 0) (judgeLines reference name above 1 (linesOf t)) .number ≡ 0 → Records 0 noPos (linesOf (drop (recordsAt t) t))
+      go : (b : Bool) → pick b (fault 3 0 0) (judgeLines reference name above 1 (linesOf t)) .number ≡ 0 → Records 0 noPos (linesOf (drop (recordsAt t) t))
       go true e = absurd (omega arith)
       go false e = rw zero-add at (above-records t (length t) 0 1 (omega arith) e)
 
@@ -130,7 +131,7 @@ module _ (reference name : List ℕ) where
     pub records-order : (a : ℕ) → RecordsFrom t a → a < length t → nextLine t a < length t → posOn (lineAt t a) .0 ≤ posOn (lineAt t (nextLine t a)) .0
     records-order a r h k =
         let rows = (rw (lines-at t a h, lines-at t (nextLine t a) k) at (r .clear)) .1 .0 in
-        ltb-false (posOn (lineAt t (nextLine t a)) .0) (posOn (lineAt t a) .0) (rows .1 .1 .1 .1 .1 .1 .1 .1 .1 .1 .1 .0)
+        record-order reference name (r .records + 1) (posOn (lineAt t a)) (lineAt t (nextLine t a)) rows
 
     pub records-skip : (i a : ℕ) → RecordsFrom t a → RecordsFrom t (skipLines i t a)
     records-skip zero a r = rw (skip-lines-zero t a) r

@@ -26,14 +26,14 @@ use Rattle.records.specs.Row.{firstRow}
 use Rattle.vcf.proofs.StageLaws.{stageAt}
 use Rattle.vcf.proofs.ToldLaws.{ClearTo, OnLine, AtEnd, Told, on-line, at-end, nowhere, on-line-not-zero, told, told-only}
 
--- A text is refused with row k at line n. (The records OnLine and AtEnd name the parts; a text's first line is line 1 and is met above the records.)
-pub data Refused (reference name t : List ℕ) (k n : ℕ) : Type 0 where
-  -- Row 3 holds of the text. It is told at line 0.
-  by-text : T (textWrong? t) → k ≡ 3 → n ≡ 0 → Refused reference name t k n
+-- A text is refused with row k at line n, with place p. (The records OnLine and AtEnd name the parts; a text's first line is line 1 and is met above the records.)
+pub data Refused (reference name t : List ℕ) (k n p : ℕ) : Type 0 where
+  -- Row 3 holds of the text. It is told at line 0, place 0.
+  by-text : T (textWrong? t) → k ≡ 3 → n ≡ 0 → p ≡ 0 → Refused reference name t k n p
   -- Row 3 does not hold. Line n is a line of the text, row k is the first of the rows tried there that holds, and no row holds on a line above.
-  by-line : textWrong? t ≡ false → OnLine reference name above 1 (linesOf t) k n → Refused reference name t k n
+  by-line : textWrong? t ≡ false → OnLine reference name above 1 (linesOf t) k n p → Refused reference name t k n p
   -- Row 3 does not hold, nor any row on any line, and there is no column line. Row 5 is told at the line number after the last.
-  by-end : textWrong? t ≡ false → AtEnd reference name above 1 (linesOf t) k n → Refused reference name t k n
+  by-end : textWrong? t ≡ false → AtEnd reference name above 1 (linesOf t) k n p → Refused reference name t k n p
 
 -- A text is accepted.
 pub record Accepted (reference name t : List ℕ) : Type 0 where
@@ -45,64 +45,64 @@ pub record Accepted (reference name t : List ℕ) : Type 0 where
   pub clear : ClearTo reference name above 1 (linesOf t) (1 + length (linesOf t))
 
 module _ (reference name t : List ℕ) where
-  told-as : (k n : ℕ) → judgeLines reference name above 1 (linesOf t) ≡ fault k n → Told reference name above 1 (linesOf t) k n
-  told-as k n e = subst (λ (f : Fault). Told reference name above 1 (linesOf t) (f .number) (f .line)) e (told reference name above 1 (linesOf t))
+  told-as : (k n p : ℕ) → judgeLines reference name above 1 (linesOf t) ≡ fault k n p → Told reference name above 1 (linesOf t) k n p
+  told-as k n p e = subst (λ (f : Fault). Told reference name above 1 (linesOf t) (f .number) (f .line) (f .place)) e (told reference name above 1 (linesOf t))
 
-  pub refused-iff : (k n : ℕ) → ((judgeText reference name t ≡ fault k n) × (k ≢ 0)) ↔ Refused reference name t k n
+  pub refused-iff : (k n p : ℕ) → ((judgeText reference name t ≡ fault k n p) × (k ≢ 0)) ↔ Refused reference name t k n p
   unfolding judgeText
-  refused-iff k n = (λ p. to (textWrong? t) refl (p .1) (p .0), of)
+  refused-iff k n p = (λ s. to (textWrong? t) refl (s .1) (s .0), of)
     where
-      kind : textWrong? t ≡ false → k ≢ 0 → Told reference name above 1 (linesOf t) k n → Refused reference name t k n
+      kind : textWrong? t ≡ false → k ≢ 0 → Told reference name above 1 (linesOf t) k n p → Refused reference name t k n p
       kind h z (on-line r) = by-line h r
       kind h z (at-end r) = by-end h r
       kind h z (nowhere r) = absurd (z (r .number))
 
-      to : (b : Bool) → textWrong? t ≡ b → k ≢ 0 → pick b (fault 3 0) (judgeLines reference name above 1 (linesOf t)) ≡ fault k n → Refused reference name t k n
-      to true h z e = by-text (of-true h) (sym (ap (λ (f : Fault). f .number) e)) (sym (ap (λ (f : Fault). f .line) e))
-      to false h z e = kind h z (told-as k n e)
+      to : (b : Bool) → textWrong? t ≡ b → k ≢ 0 → pick b (fault 3 0 0) (judgeLines reference name above 1 (linesOf t)) ≡ fault k n p → Refused reference name t k n p
+      to true h z e = by-text (of-true h) (sym (ap (λ (f : Fault). f .number) e)) (sym (ap (λ (f : Fault). f .line) e)) (sym (ap (λ (f : Fault). f .place) e))
+      to false h z e = kind h z (told-as k n p e)
 
-      of : Refused reference name t k n → (judgeText reference name t ≡ fault k n) × (k ≢ 0)
-      of (by-text h a b) = (rw (is-true (textWrong? t) h, a, b), λ z. omega arith)
+      of : Refused reference name t k n p → (judgeText reference name t ≡ fault k n p) × (k ≢ 0)
+      of (by-text h a b g) = (rw (is-true (textWrong? t) h, a, b, g), λ z. omega arith)
       of (by-line h r) =
-          (rw h (told-only reference name above 1 (linesOf t) k n (on-line r)), on-line-not-zero reference name above 1 (linesOf t) k n r)
-      of (by-end h r) = (rw h (told-only reference name above 1 (linesOf t) k n (at-end r)), λ z. omega arith)
+          (rw h (told-only reference name above 1 (linesOf t) k n p (on-line r)), on-line-not-zero reference name above 1 (linesOf t) k n p r)
+      of (by-end h r) = (rw h (told-only reference name above 1 (linesOf t) k n p (at-end r)), λ z. omega arith)
 
   pub accepted-zero : judgeText reference name t .number ≡ 0 → Accepted reference name t
   unfolding judgeText
   accepted-zero e = to (textWrong? t) refl e
     where
-      kind : (k n : ℕ) → textWrong? t ≡ false → k ≡ 0 → Told reference name above 1 (linesOf t) k n → Accepted reference name t
-      kind k n h z (on-line r) = absurd (on-line-not-zero reference name above 1 (linesOf t) k n r z)
-      kind k n h z (at-end r) = absurd (omega arith)
-      kind k n h z (nowhere r) = record { fits = h; below = r .below; clear = r .clear }
+      kind : (k n p : ℕ) → textWrong? t ≡ false → k ≡ 0 → Told reference name above 1 (linesOf t) k n p → Accepted reference name t
+      kind k n p h z (on-line r) = absurd (on-line-not-zero reference name above 1 (linesOf t) k n p r z)
+      kind k n p h z (at-end r) = absurd (omega arith)
+      kind k n p h z (nowhere r) = record { fits = h; below = r .below; clear = r .clear }
 
-      to : (b : Bool) → textWrong? t ≡ b → pick b (fault 3 0) (judgeLines reference name above 1 (linesOf t)) .number ≡ 0 → Accepted reference name t
+      to : (b : Bool) → textWrong? t ≡ b → pick b (fault 3 0 0) (judgeLines reference name above 1 (linesOf t)) .number ≡ 0 → Accepted reference name t
       to true h e = absurd (omega arith)
-      to false h e = kind _ _ h e (told reference name above 1 (linesOf t))
+      to false h e = kind _ _ _ h e (told reference name above 1 (linesOf t))
 
-  pub accepted-iff : (judgeText reference name t ≡ fault 0 0) ↔ Accepted reference name t
+  pub accepted-iff : (judgeText reference name t ≡ fault 0 0 0) ↔ Accepted reference name t
   unfolding judgeText
   accepted-iff = (λ e. accepted-zero (ap (λ (f : Fault). f .number) e), of)
     where
-      of : Accepted reference name t → judgeText reference name t ≡ fault 0 0
+      of : Accepted reference name t → judgeText reference name t ≡ fault 0 0 0
       of a =
-          rw (a .fits) (told-only reference name above 1 (linesOf t) 0 0
-          (nowhere (record { number = refl; line = refl; below = a .below; clear = a .clear })))
+          rw (a .fits) (told-only reference name above 1 (linesOf t) 0 0 0
+          (nowhere (record { number = refl; line = refl; place = refl; below = a .below; clear = a .clear })))
 
 -- Which of the three kinds a refusal is.
-abbrev pub kindOf : {reference name t : List ℕ} {k n : ℕ} → Refused reference name t k n → ℕ
-kindOf (by-text h a b) = 1
+abbrev pub kindOf : {reference name t : List ℕ} {k n p : ℕ} → Refused reference name t k n p → ℕ
+kindOf (by-text h a b g) = 1
 kindOf (by-line h r) = 2
 kindOf (by-end h r) = 3
 
-pub refused-one : {reference name t : List ℕ} {k n : ℕ} (p q : Refused reference name t k n) → kindOf p ≡ kindOf q
-refused-one (by-text h a b) (by-text i c d) = refl
-refused-one (by-text h a b) (by-line i s) = absurd (of-false i h)
-refused-one (by-text h a b) (by-end i s) = absurd (of-false i h)
-refused-one (by-line h r) (by-text i c d) = absurd (of-false h i)
+pub refused-one : {reference name t : List ℕ} {k n p : ℕ} (a b : Refused reference name t k n p) → kindOf a ≡ kindOf b
+refused-one (by-text h a b g) (by-text i c d e) = refl
+refused-one (by-text h a b g) (by-line i s) = absurd (of-false i h)
+refused-one (by-text h a b g) (by-end i s) = absurd (of-false i h)
+refused-one (by-line h r) (by-text i c d e) = absurd (of-false h i)
 refused-one (by-line h r) (by-line i s) = refl
 refused-one (by-line h r) (by-end i s) = absurd (omega arith)
-refused-one (by-end h r) (by-text i c d) = absurd (of-false h i)
+refused-one (by-end h r) (by-text i c d e) = absurd (of-false h i)
 refused-one (by-end h r) (by-line i s) = absurd (omega arith)
 refused-one (by-end h r) (by-end i s) = refl
 
@@ -120,15 +120,18 @@ lines-line : (reference name : List ℕ) (s : Stage) (n : ℕ) (ls : List (List 
 unfolding judgeLines
 lines-line reference name s n [] = go (s .below)
   where
-    go : (b : Bool) → pick b (fault 0 0) (fault 5 n) .line ≤ n + 0
+    go : (b : Bool) → pick b (fault 0 0 0) (fault 5 n 0) .line ≤ n + 0
     go true = omega arith
     go false = omega arith
-lines-line reference name s n (l ∷ ls) = go (eqb (firstRow (lineRows reference name s n l)) 0) (lines-line reference name (nextStage s l) (n + 1) ls)
+lines-line reference name s n (l ∷ ls) = go (eqb (firstRow (lineRows reference name s n l) .number) 0) (lines-line reference name (nextStage s l) (n + 1) ls)
   where
     rest : Fault
     rest = judgeLines reference name (nextStage s l) (n + 1) ls
 
-    go : (b : Bool) → rest .line ≤ n + 1 + length ls → pick b rest (fault (firstRow (lineRows reference name s n l)) n) .line ≤ n + suc (length ls)
+    here : Fault
+    here = let k = firstRow (lineRows reference name s n l) in fault (k .number) n (k .at)
+
+    go : (b : Bool) → rest .line ≤ n + 1 + length ls → pick b rest here .line ≤ n + suc (length ls)
     go true h = omega arith
     go false h = omega arith
 
@@ -139,7 +142,7 @@ pub judge-line : (reference name t : List ℕ) → judgeText reference name t .l
 unfolding judgeText
 judge-line reference name t = go (textWrong? t)
   where
-    go : (b : Bool) → pick b (fault 3 0) (judgeLines reference name above 1 (linesOf t)) .line ≤ length t + 1
+    go : (b : Bool) → pick b (fault 3 0 0) (judgeLines reference name above 1 (linesOf t)) .line ≤ length t + 1
     go true = omega arith
     go false = omega (arith, lines-line reference name above 1 (linesOf t), lines-few t)
 
@@ -147,6 +150,6 @@ pub judge-line-fits : (reference name t : List ℕ) → judgeText reference name
 unfolding judgeText
 judge-line-fits reference name t = go (textWrong? t) refl
   where
-    go : (b : Bool) → textWrong? t ≡ b → pick b (fault 3 0) (judgeLines reference name above 1 (linesOf t)) .line ≤ longestText + 1
+    go : (b : Bool) → textWrong? t ≡ b → pick b (fault 3 0 0) (judgeLines reference name above 1 (linesOf t)) .line ≤ longestText + 1
     go true e = omega arith
     go false e = omega (arith, lines-line reference name above 1 (linesOf t), lines-few t, text-fits t e)

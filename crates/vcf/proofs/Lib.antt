@@ -2,6 +2,7 @@ pub mod AboveLaws
 pub mod AcceptedLaws
 pub mod Determines
 pub mod EntryLaws
+pub mod GivenLaws
 pub mod JudgeLaws
 pub mod ListLaws
 pub mod PartLaws

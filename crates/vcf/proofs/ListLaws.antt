@@ -12,7 +12,7 @@ use mathlib.Core.Bool.{Bool, true, false}
 use mathlib.Core.List.{List, [], _∷_}
 use mathlib.Core.Path.{_≡_, refl}
 use Prim.Native.Nat.{ℕ, suc, _+_, _≤_, _<_}
-use native.Mathlib.Nat.{not-suc-le-zero, suc-ne-zero}
+use native.Mathlib.Nat.{not-suc-le-zero}
 use native.Mathlib.Omega.{arith}
 use borrow.Author.Tests.{eq-eqb, ne-eqb}
 use lib.Dec.{eqb}
@@ -26,7 +26,7 @@ use Rattle.vcf.specs.List.{onto, linesOf, textWrong?, above, belowAt, ne
 use Rattle.fields.specs.Pos.{noPos}
 use Rattle.records.specs.Record.{tooLong?, posOn, recordRows}
 use Rattle.records.specs.Row.{row, firstRow}
-use Rattle.records.proofs.RowLaws.{Numbered, record-rows-numbered}
+use Rattle.records.proofs.RowLaws.{Numbered, numbered, record-rows-numbered}
 
 pub lines-cons : (t : List ℕ) → 0 < length t → linesOf t ≡ take (until LF t) t ∷ linesOf (drop (until LF t + 1) t)
 unfolding linesOf until
@@ -76,25 +76,25 @@ module _ (reference name : List ℕ) where
   pub rows-above : (s : Stage) (n : ℕ) (l : List ℕ) → s .below ≡ false → lineRows reference name s n l ≡ row 4 (tooLong? l) ∷ row 5 (headerWrong? n l) ∷ []
   rows-above s n l e = rw e
 
-  pub judge-stop : (s : Stage) (n : ℕ) (l : List ℕ) (ls : List (List ℕ)) → (firstRow (lineRows reference name s n l) ≡ 0 → ⊥) → judgeLines reference name s n (l ∷ ls)
-      ≡ fault (firstRow (lineRows reference name s n l)) n
+  pub judge-stop : (s : Stage) (n : ℕ) (l : List ℕ) (ls : List (List ℕ)) → (firstRow (lineRows reference name s n l) .number ≡ 0 → ⊥) → judgeLines reference name s n (l ∷ ls)
+      ≡ fault (firstRow (lineRows reference name s n l) .number) n (firstRow (lineRows reference name s n l) .at)
   unfolding judgeLines
   judge-stop s n l ls h = rw (ne-eqb _ _ h)
 
-  pub judge-more : (s : Stage) (n : ℕ) (l : List ℕ) (ls : List (List ℕ)) → firstRow (lineRows reference name s n l) ≡ 0 → judgeLines reference name s n (l ∷ ls)
+  pub judge-more : (s : Stage) (n : ℕ) (l : List ℕ) (ls : List (List ℕ)) → firstRow (lineRows reference name s n l) .number ≡ 0 → judgeLines reference name s n (l ∷ ls)
       ≡ judgeLines reference name (nextStage s l) (n + 1) ls
   unfolding judgeLines
   judge-more s n l ls h = rw (eq-eqb _ _ h)
 
-  pub judge-end-below : (s : Stage) (n : ℕ) → s .below ≡ true → judgeLines reference name s n [] ≡ fault 0 0
+  pub judge-end-below : (s : Stage) (n : ℕ) → s .below ≡ true → judgeLines reference name s n [] ≡ fault 0 0 0
   unfolding judgeLines
   judge-end-below s n e = rw e
 
-  pub judge-end-above : (s : Stage) (n : ℕ) → s .below ≡ false → judgeLines reference name s n [] ≡ fault 5 n
+  pub judge-end-above : (s : Stage) (n : ℕ) → s .below ≡ false → judgeLines reference name s n [] ≡ fault 5 n 0
   unfolding judgeLines
   judge-end-above s n e = rw e
 
-  pub text-wrong : (t : List ℕ) → textWrong? t ≡ true → judgeText reference name t ≡ fault 3 0
+  pub text-wrong : (t : List ℕ) → textWrong? t ≡ true → judgeText reference name t ≡ fault 3 0 0
   unfolding judgeText
   text-wrong t e = rw e
 
@@ -107,4 +107,4 @@ line-rows-numbered reference name s n l = go (s .below)
   where
     go : (b : Bool) → Numbered (pick b (recordRows reference name (s .records) (s .last) l) (row 4 (tooLong? l) ∷ row 5 (headerWrong? n l) ∷ []))
     go true = record-rows-numbered reference name (s .records) (s .last) l
-    go false = (suc-ne-zero 3, (suc-ne-zero 4, tt))
+    go false = numbered (row 4 (tooLong? l) ∷ row 5 (headerWrong? n l) ∷ []) tt

@@ -49,20 +49,20 @@ abbrev pub lineRows : List ℕ → List ℕ → Stage → ℕ → List ℕ → L
 lineRows reference name s n l =
     pick (s .below) (recordRows reference name (s .records) (s .last) l) (row 4 (tooLong? l) ∷ row 5 (headerWrong? n l) ∷ [])
 
--- A fault: the number of its row and its line. No fault is 0 at line 0.
-abbrev pub fault : ℕ → ℕ → Fault
-fault number line = record { number = number; line = line }
+-- A fault: the number of its row, its line, and the place in that line that the row tells. No fault is three zeros.
+abbrev pub fault : ℕ → ℕ → ℕ → Fault
+fault number line place = record { number = number; line = line; place = place }
 
 -- The first fault of lines, the first of which is the n-th of the text. A missing column line is told at the line number after the last.
 unfoldable pub judgeLines : List ℕ → List ℕ → Stage → ℕ → List (List ℕ) → Fault
-judgeLines reference name s n [] = pick (s .below) (fault 0 0) (fault 5 n)
+judgeLines reference name s n [] = pick (s .below) (fault 0 0 0) (fault 5 n 0)
 judgeLines reference name s n (l ∷ ls) =
     let k = firstRow (lineRows reference name s n l) in
     let rest = judgeLines reference name (nextStage s l) (n + 1) ls in
-    pick (eqb k 0) rest (fault k n)
+    pick (eqb (k .number) 0) rest (fault (k .number) n (k .at))
 
 -- The first fault of a list's text.
 unfoldable pub judgeText : List ℕ → List ℕ → List ℕ → Fault
 judgeText reference name t =
     let ls = judgeLines reference name above 1 (linesOf t) in
-    pick (textWrong? t) (fault 3 0) ls
+    pick (textWrong? t) (fault 3 0 0) ls

@@ -1,4 +1,4 @@
-// A list's text, judged: rows 3 to 15 in their order.
+// A list's text, judged: rows 3 to 9, 11 to 15 and 20 to 23 in their order.
 ghost use mathlib.Core.Path.{_≡_};
 ghost use Prim.Native.Nat.{_+_, _<_, _^_};
 ghost use lib.Dec.{T};
@@ -15,6 +15,7 @@ use fields::header::is_header_line;
 use records::record::is_too_long;
 use records::record::pos_on;
 use records::record::record_fault;
+use records::row::LineFault;
 
 // The most bytes that a list's text has.
 pub const LONGEST_TEXT: usize = 65_536;
@@ -26,10 +27,12 @@ pub struct Stage {
     pub last: Pos,
 }
 
-// A row that holds, and the line where it does (from 1; 0 for row 3). No fault is 0 at line 0.
+// A row that holds, the line where it does (from 1; 0 for row 3), and the place in that line that it tells (from 0; 0 in all rows but 20
+// to 23). No fault is three zeros.
 pub struct Fault {
     pub number: u32,
     pub line: usize,
+    pub place: usize,
 }
 
 // Is the text too long, or not ended by LF? Row 3.
@@ -46,20 +49,20 @@ fn is_text_wrong(text: &[u8]) -> bool
     text[n - 1] != LF
 }
 
-// The first row that holds on the n-th line of a text, or 0.
-fn line_fault(reference: &[u8], name: &[u8], stage: Stage, n: usize, line: &[u8]) -> u32
+// The first row that holds on the n-th line of a text, or none.
+fn line_fault(reference: &[u8], name: &[u8], stage: Stage, n: usize, line: &[u8]) -> LineFault
     ensures { λ r. ⌜ r ≡ firstRow (lineRows (now (reference .entry)) (now (name .entry)) stage n (now (line .entry))) ⌝ }
 {
     if stage.below {
         return record_fault(reference, name, stage.records, stage.last, line);
     }
     if is_too_long(line) {
-        return 4;
+        return LineFault { number: 4, at: 0 };
     }
     if header_wrong(n, line) {
-        return 5;
+        return LineFault { number: 5, at: 0 };
     }
-    0
+    LineFault { number: 0, at: 0 }
 }
 
 // Where a line leads. Below the column line it is a line of ten fields.
@@ -97,7 +100,11 @@ pub fn judge(reference: &[u8], name: &[u8], text: &[u8]) -> Fault
     ensures { λ r. ⌜ r ≡ judgeText (now (reference .entry)) (now (name .entry)) (now (text .entry)) ⌝ }
 {
     if is_text_wrong(text) {
-        return Fault { number: 3, line: 0 };
+        return Fault {
+            number: 3,
+            line: 0,
+            place: 0,
+        };
     }
     let mut stage = Stage {
         below: false,
@@ -108,17 +115,29 @@ pub fn judge(reference: &[u8], name: &[u8], text: &[u8]) -> Fault
     let mut at: usize = 0;
     while at < text.len() {
         let end = find(text, at, LF);
-        let number = line_fault(reference, name, stage, n, &text[at..end]);
-        if number != 0 {
-            return Fault { number, line: n };
+        let told = line_fault(reference, name, stage, n, &text[at..end]);
+        if told.number != 0 {
+            return Fault {
+                number: told.number,
+                line: n,
+                place: told.at,
+            };
         }
         stage = next_stage(stage, &text[at..end]);
         n += 1;
         at = end + 1;
     }
     if stage.below {
-        Fault { number: 0, line: 0 }
+        Fault {
+            number: 0,
+            line: 0,
+            place: 0,
+        }
     } else {
-        Fault { number: 5, line: n }
+        Fault {
+            number: 5,
+            line: n,
+            place: 0,
+        }
     }
 }

@@ -18,6 +18,7 @@ use Rattle.vcf.specs.Entry.{headerBytes}
 use Rattle.fields.specs.Header.{headerLine?}
 use Rattle.vcf.specs.List.{above, belowAt, nextStage, lineRows, judgeLines}
 use Rattle.records.specs.Record.{posOn, recordRows}
+use Rattle.records.specs.declared.row.LineFault.{LineFault}
 use Rattle.records.specs.Row.{firstRow}
 use Rattle.vcf.proofs.AcceptedLaws.{Records}
 use Rattle.vcf.proofs.ListLaws.{next-header, next-column, judge-stop, judge-more, judge-end-above, judge-end-below}
@@ -55,7 +56,7 @@ module _ (reference name : List ℕ) where
   pub records-judged : (records : ℕ) (last : Pos) (n : ℕ) (ls : List (List ℕ)) → Records reference name records last ls → judgeLines reference name (belowAt records last) n ls .number ≡ 0
   records-judged records last n [] h = rw (judge-end-below reference name (belowAt records last) n refl)
   records-judged records last n (l ∷ ls) h =
-      rw (judge-more reference name (belowAt records last) n l ls (first-row-none (recordRows reference name records last l) (h .0)))
+      rw (judge-more reference name (belowAt records last) n l ls (ap (λ (f : LineFault). f .number) (first-row-none (recordRows reference name records last l) (h .0))))
       (records-judged (records + 1) (posOn l) (n + 1) ls (h .1))
 
   -- Lines above the records, with these records behind them.
@@ -64,7 +65,7 @@ module _ (reference name : List ℕ) where
     pub header : headerOf (hs ++ rs) ≡ hs
     pub records : recordsOf (hs ++ rs) ≡ rs
 
-  kept-cons : (n : ℕ) (l : List ℕ) (ls rs : List (List ℕ)) → firstRow (lineRows reference name above n l) ≡ 0 → judgeLines reference name (nextStage above l) (n + 1) ls .number ≡ 0
+  kept-cons : (n : ℕ) (l : List ℕ) (ls rs : List (List ℕ)) → firstRow (lineRows reference name above n l) .number ≡ 0 → judgeLines reference name (nextStage above l) (n + 1) ls .number ≡ 0
       → (judgeLines reference name above (n + 1) ls .number ≡ 0 → Kept (n + 1) (headerOf ls) rs) → Records reference name 0 noPos rs → Kept n (headerOf (l ∷ ls)) rs
   unfolding headerOf recordsOf
   kept-cons n l ls rs z e more h = go (headerLine? l) refl
@@ -86,8 +87,8 @@ module _ (reference name : List ℕ) where
 
   pub header-kept : (n : ℕ) (ls rs : List (List ℕ)) → judgeLines reference name above n ls .number ≡ 0 → Records reference name 0 noPos rs → Kept n (headerOf ls) rs
   header-kept n [] rs e h = absurd (let f = rw (judge-end-above reference name above n refl) at e in omega arith)
-  header-kept n (l ∷ ls) rs e h = go (ℕ-discrete (firstRow (lineRows reference name above n l)) 0) (λ k. header-kept (n + 1) ls rs k h)
+  header-kept n (l ∷ ls) rs e h = go (ℕ-discrete (firstRow (lineRows reference name above n l) .number) 0) (λ k. header-kept (n + 1) ls rs k h)
     where
-      go : Dec (firstRow (lineRows reference name above n l) ≡ 0) → (judgeLines reference name above (n + 1) ls .number ≡ 0 → Kept (n + 1) (headerOf ls) rs) → Kept n (headerOf (l ∷ ls)) rs
+      go : Dec (firstRow (lineRows reference name above n l) .number ≡ 0) → (judgeLines reference name above (n + 1) ls .number ≡ 0 → Kept (n + 1) (headerOf ls) rs) → Kept n (headerOf (l ∷ ls)) rs
       go (yes z) more = kept-cons n l ls rs z (rw (judge-more reference name above n l ls z) at e) more h
       go (no z) more = absurd (z (rw (judge-stop reference name above n l ls z) at e))

@@ -3,13 +3,12 @@
 --     line-shrinks            what its normal form keeps
 --     NewAlleles, new-alleles     REF and the ALTs are alleles that differ and are not longer, and the end does not move right
 -- Assumes nothing.
-use mathlib.Core.Bool.{Bool, true, false, _&&_}
+use mathlib.Core.Bool.{Bool, true, false}
 use mathlib.Core.List.{List}
 use mathlib.Core.Path.{_≡_, refl, sym, ap, _∙_}
 use Prim.Native.Nat.{ℕ, _+_, _≤_}
 use native.Mathlib.Omega.{arith}
-use borrow.Author.Tests.{le-leb}
-use lib.Dec.{T, eqb, leb}
+use lib.Dec.{T, eqb}
 use lib.ListN.{length}
 use Rattle.bases.specs.Place.{placeOf}
 use Rattle.bases.specs.Letter.{allLetters?, basesOf}
@@ -17,17 +16,17 @@ use Rattle.bases.specs.Pick.{pick}
 use Rattle.bases.specs.Same.{sameBases?}
 use Rattle.bases.proofs.LetterLaws.{bases-length}
 use Rattle.bases.proofs.SameLaws.{same-iff}
-use Rattle.bases.proofs.TestLaws.{both, of-true, of-false, is-true, is-false}
+use Rattle.bases.proofs.TestLaws.{of-false, is-false}
 use Rattle.vcf.specs.declared.entry.Entry.{Entry}
-use Rattle.fields.specs.Allele.{isAllele?, longestAllele, altCount, firstAlt, twoAlts?, secondAlt, notNew?}
+use Rattle.fields.specs.Allele.{isAllele?, longestAllele, altCount, firstAlt, twoAlts?, secondAlt}
 use Rattle.fields.specs.Bytes.{LF}
 use Rattle.vcf.specs.Entry.{part, bytesOf, entryOf}
 use Rattle.fields.specs.Field.{field}
 use Rattle.records.specs.Record.{posOn}
+use Rattle.fields.proofs.AlleleLaws.{allele-iff}
 use Rattle.records.proofs.RecordLineLaws.{RecordLine}
 use Rattle.normal.specs.Spelled.{startOf}
 use Rattle.written.specs.Written.{newOn, newRef, newFirst, newSecond}
-use Rattle.written.proofs.AltLaws.{old-first, old-second}
 use Rattle.normal.proofs.EntryLaws.{refBytes, part-length}
 use Rattle.normal.proofs.NormalEntry.{form-on, form-some}
 use Rattle.written.proofs.RecordEntryLaws.{Allele, allele, line-stands, line-normal, the-first, the-second, first-is, second-is, ref-letters, first-letters, second-letters}
@@ -42,12 +41,7 @@ two-count f = go (twoAlts? f)
     go false = refl
 
 is-allele : (a : List ℕ) → 1 ≤ length a → length a ≤ longestAllele → T (allLetters? a) → T (isAllele? a)
-is-allele a h k t =
-    both (leb 1 (length a)) (leb (length a) longestAllele && allLetters? a) .1
-    (of-true (le-leb 1 (length a) h), both (leb (length a) longestAllele) (allLetters? a) .1 (of-true (le-leb (length a) longestAllele k), t))
-
-is-new : (a b : List ℕ) → T (isAllele? a) → sameBases? a b ≡ false → notNew? a b ≡ false
-is-new a b t s = rw (is-true (isAllele? a) t, s)
+is-allele a h k t = allele-iff a .1 (h, k, t)
 
 differ : (a b : List ℕ) → sameBases? a b ≡ false → basesOf a ≡ basesOf b → ⊥
 differ a b s e = of-false s (same-iff (basesOf a) (basesOf b) .1 e)
@@ -63,8 +57,10 @@ pub record NewAlleles (reference l : List ℕ) : Type 0 where
   pub second-short : T (twoAlts? (field 4 l)) → length (newSecond reference l) ≤ length (secondAlt (field 4 l))
   pub ref : T (isAllele? (newRef reference l))
   pub first-some : 1 ≤ length (newFirst reference l)
-  pub first : notNew? (newFirst reference l) (newRef reference l) ≡ false
-  pub second : T (twoAlts? (field 4 l)) → notNew? (newSecond reference l) (newRef reference l) ≡ false
+  pub first : T (isAllele? (newFirst reference l))
+  pub first-new : sameBases? (newFirst reference l) (newRef reference l) ≡ false
+  pub second : T (twoAlts? (field 4 l)) → T (isAllele? (newSecond reference l))
+  pub second-new : T (twoAlts? (field 4 l)) → sameBases? (newSecond reference l) (newRef reference l) ≡ false
   pub two : T (twoAlts? (field 4 l)) → sameBases? (newSecond reference l) (newFirst reference l) ≡ false
 
 module _ (reference l : List ℕ) (good : T (allLetters? reference)) (one : Without LF l) (line : RecordLine reference l) where
@@ -113,13 +109,13 @@ module _ (reference l : List ℕ) (good : T (allLetters? reference)) (one : With
 
   -- The old alleles differ.
   first-ref : basesOf (bytesOf l (e .first)) ≡ basesOf (refBytes reference e) → ⊥
-  first-ref h = differ (firstAlt (field 4 l)) (field 3 l) (old-first (field 3 l) (field 4 l) (line .alts)) (ap basesOf (sym (first-is reference l good one line)) ∙ h ∙ sym (line .same))
+  first-ref h = differ (firstAlt (field 4 l)) (field 3 l) (line .alts .first-new) (ap basesOf (sym (first-is reference l good one line)) ∙ h ∙ sym (line .same))
 
   second-ref : T (twoAlts? (field 4 l)) → basesOf (bytesOf l (e .second)) ≡ basesOf (refBytes reference e) → ⊥
-  second-ref t h = differ (secondAlt (field 4 l)) (field 3 l) (old-second (field 3 l) (field 4 l) (line .alts) t .0) (ap basesOf (sym (second-is reference l good one line t)) ∙ h ∙ sym (line .same))
+  second-ref t h = differ (secondAlt (field 4 l)) (field 3 l) (line .alts .second-new t) (ap basesOf (sym (second-is reference l good one line t)) ∙ h ∙ sym (line .same))
 
   second-first : T (twoAlts? (field 4 l)) → basesOf (bytesOf l (e .second)) ≡ basesOf (bytesOf l (e .first)) → ⊥
-  second-first t h = differ (secondAlt (field 4 l)) (firstAlt (field 4 l)) (old-second (field 3 l) (field 4 l) (line .alts) t .1)
+  second-first t h = differ (secondAlt (field 4 l)) (firstAlt (field 4 l)) (line .alts .two-new t)
       (ap basesOf (sym (second-is reference l good one line t)) ∙ h ∙ ap basesOf (first-is reference l good one line))
 
   pub new-alleles : NewAlleles reference l
@@ -132,7 +128,9 @@ module _ (reference l : List ℕ) (good : T (allLetters? reference)) (one : With
         ref = is-allele (newRef reference l) (omega (arith, line-shrinks .ref-some, bases-length (newRef reference l)))
             (omega (arith, short-ref, old-ref .short)) (ref-letters reference l good one line);
         first-some = omega (arith, line-shrinks .first-some, bases-length (newFirst reference l));
-        first = is-new (newFirst reference l) (newRef reference l) allele-first (not-same (newFirst reference l) (newRef reference l) (line-shrinks .first-new first-ref));
-        second = λ t. is-new (newSecond reference l) (newRef reference l) (allele-second t) (not-same (newSecond reference l) (newRef reference l) (line-shrinks .second-new (twice t) (second-ref t)));
+        first = allele-first;
+        first-new = not-same (newFirst reference l) (newRef reference l) (line-shrinks .first-new first-ref);
+        second = allele-second;
+        second-new = λ t. not-same (newSecond reference l) (newRef reference l) (line-shrinks .second-new (twice t) (second-ref t));
         two = λ t. not-same (newSecond reference l) (newFirst reference l) (line-shrinks .two-new (twice t) (second-first t));
       }

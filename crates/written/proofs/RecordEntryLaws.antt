@@ -3,12 +3,12 @@
 --     line-stands                                    the entry stands on the reference and on the line
 --     line-normal                                    its normal form is what is written of it
 -- Assumes nothing.
-use mathlib.Core.Bool.{Bool, true, false, _&&_}
+use mathlib.Core.Bool.{Bool, true, false}
 use mathlib.Core.List.{List, [], _∷_, _++_}
 use mathlib.Core.Path.{_≡_, refl, subst}
 use Prim.Native.Nat.{ℕ, zero, suc, _+_, _-_, _≤_}
 use native.Mathlib.Omega.{arith}
-use lib.Dec.{T, eqb, leb, leb→le}
+use lib.Dec.{T, eqb}
 use lib.ListN.{length, take, drop, length-drop}
 use lib.Seq.{take-length, length-take-le}
 use Rattle.bases.specs.declared.place.Place.{Place}
@@ -24,7 +24,8 @@ use Rattle.vcf.specs.Entry.{lineAt, bytesOf, entryOf}
 use Rattle.fields.specs.Field.{field, tenFields?}
 use Rattle.fields.proofs.BytesLaws.{until-le}
 use Rattle.vcf.proofs.PartLaws.{first-within, second-within, first-bytes, second-bytes}
-use Rattle.records.proofs.RecordLineLaws.{RecordLine, first-allele, second-allele}
+use Rattle.fields.proofs.AlleleLaws.{allele-iff}
+use Rattle.records.proofs.RecordLineLaws.{RecordLine}
 use Rattle.normal.specs.declared.cut.Cuts.{Cuts}
 use Rattle.normal.specs.Form.{NormalForm}
 use Rattle.normal.specs.Spelled.{cutsOf, spelled, lastAlt, formOf, Within, Stands, normalEntry, bytesSpelled, formSpelled}
@@ -70,9 +71,8 @@ pub record Allele (a : List ℕ) : Type 0 where
 
 pub allele : (a : List ℕ) → T (isAllele? a) → Allele a
 allele a t =
-    let s = both (leb 1 (length a)) (leb (length a) longestAllele && allLetters? a) .0 t in
-    let r = both (leb (length a) longestAllele) (allLetters? a) .0 (s .1) in
-    record { some = leb→le _ _ (s .0); short = leb→le _ _ (r .0); letters = r .1 }
+    let s = allele-iff a .0 t in
+    record { some = s .0; short = s .1; letters = s .2 }
 
 module _ (reference l : List ℕ) (good : T (allLetters? reference)) (one : Without LF l) (line : RecordLine reference l) where
   pub self : lineAt l 0 ≡ l
@@ -88,10 +88,10 @@ module _ (reference l : List ℕ) (good : T (allLetters? reference)) (one : With
   e = entryOf l 0
 
   pub the-first : Allele (firstAlt f4)
-  the-first = allele (firstAlt f4) (first-allele (field 3 l) f4 (line .alts))
+  the-first = allele (firstAlt f4) (line .alts .first)
 
   pub the-second : T (twoAlts? f4) → Allele (secondAlt f4)
-  the-second two = allele (secondAlt f4) (second-allele (field 3 l) f4 (line .alts) two)
+  the-second two = allele (secondAlt f4) (line .alts .second two)
 
   in-first : Within l (e .first)
   in-first = (

@@ -27,7 +27,7 @@ use Rattle.vcf.proofs.AcceptedLaws.{Records, RecordsFrom, accepted-records, acc
 use Rattle.vcf.proofs.JudgeLaws.{accepted-zero, text-fits}
 use Rattle.vcf.proofs.ListLaws.{judge-end-above, text-right}
 use Rattle.records.proofs.RecordLineLaws.{RecordLine, record-line}
-use Rattle.records.proofs.RowLaws.{NoneHolds}
+use Rattle.bases.proofs.FirstLaws.{NoneHolds}
 use Rattle.written.specs.Lines.{All, Ordered}
 use Rattle.written.specs.Written.{newPos, writtenLine, writtenLines, textOf, writtenText}
 use Rattle.written.proofs.HeaderLaws.{headerOf, recordsOf, header-split, header-bytes, Kept, header-kept}

@@ -19,12 +19,14 @@ use Rattle.bases.specs.Same.{agree?, sameBases?}
 use Rattle.bases.proofs.ReferenceLaws.{reference-iff}
 use Rattle.bases.proofs.SameLaws.{same-iff}
 use Rattle.bases.proofs.TestLaws.{is-true, both}
-use Rattle.fields.specs.Allele.{isAllele?, altCount, twoAlts?, altsWrong?}
+use Rattle.fields.specs.Allele.{isAllele?, altCount, twoAlts?}
 use Rattle.fields.specs.Bytes.{LF, COMMA, hash, begins?}
 use Rattle.fields.specs.Field.{field, tenFields?}
-use Rattle.records.specs.Record.{longestLine, mostRecords, offReference?, recordRows}
+use Rattle.records.specs.Record.{laterRows, longestLine, mostRecords, offReference?, recordRows}
 use Rattle.records.proofs.RecordLineLaws.{RecordLine, record-line}
-use Rattle.records.proofs.RowLaws.{NoneHolds}
+use Rattle.records.proofs.AltLaws.{RightAlts, right-iff}
+use Rattle.records.specs.Alt.{altRows}
+use Rattle.bases.proofs.FirstLaws.{NoneHolds, none-join}
 use Rattle.written.specs.Written.{newOn, newPos, newRef, newFirst, newSecond, newAlt, writtenLine}
 use Rattle.written.proofs.AltLaws.{one-not-two, two-two, alts-one, alts-two}
 use Rattle.written.proofs.FieldThenLaws.{line-record, field-some}
@@ -59,12 +61,12 @@ module _ (reference l : List ℕ) (good : T (allLetters? reference)) (one : With
       go true = two-two (newFirst reference l) no-comma (newSecond reference l)
       go false = one-not-two (newFirst reference l) no-comma
 
-  pub new-alts : altsWrong? (newRef reference l) (newAlt reference l) ≡ false
+  pub new-alts : RightAlts (newRef reference l) (newAlt reference l)
   new-alts = go (twoAlts? (field 4 l)) (λ t. t)
     where
-      go : (t : Bool) → (T t → T (twoAlts? (field 4 l))) → altsWrong? (newRef reference l) (pick t (newFirst reference l ++ (COMMA ∷ newSecond reference l)) (newFirst reference l)) ≡ false
-      go true h = alts-two (newFirst reference l) no-comma (newSecond reference l) (newRef reference l) (new .first) (new .second (h tt)) (new .two (h tt))
-      go false h = alts-one (newFirst reference l) no-comma (newRef reference l) (new .first)
+      go : (t : Bool) → (T t → T (twoAlts? (field 4 l))) → RightAlts (newRef reference l) (pick t (newFirst reference l ++ (COMMA ∷ newSecond reference l)) (newFirst reference l))
+      go true h = alts-two (newFirst reference l) no-comma (newSecond reference l) (newRef reference l) (new .first) (new .first-new) (new .second (h tt)) (new .second-new (h tt)) (new .two (h tt))
+      go false h = alts-one (newFirst reference l) no-comma (newRef reference l) (new .first) (new .first-new)
 
   abbrev m : List ℕ
   m = writtenLine reference l
@@ -116,8 +118,18 @@ module _ (reference name l : List ℕ) (records : ℕ) (last : Pos) (ok : T (isR
       let ten = is-true (tenFields? (writtenLine reference l)) (written-ten reference l good one line) in
       let pos = ap (λ (p : Pos). p .0) (written-pos reference l good one line fits) in
       let ref = written-3 reference l good one line in
-      let rows = z .1 .1 .1 .1 in (
-        le-ltb longestLine (length (writtenLine reference l)) (omega (arith, ltb-false longestLine (length l) (z .0))),
+      let rows = z .1 .1 .1 .1 in
+      let later = none-join (altRows l) (laterRows reference last l) .0 (rows .1 .1 .1) .1 in
+      let m = writtenLine reference l in
+      let alt : RightAlts (field 3 m) (field 4 m) = rw (ref, written-4 reference l good one line) (new-alts reference l good one line) in
+      let behind : NoneHolds (laterRows reference before m) = (
+        rw (written-8 reference l good one line, written-9 reference l good one line, written-count reference l good one line) (later .0),
+        (
+          rw (written-9 reference l good one line) (later .1 .0),
+          (rw (pos, ref) (on-reference reference l good one line), (rw pos (le-ltb (newPos reference l .0) (before .0) k), tt)),
+        ),
+      ) in (
+        le-ltb longestLine (length m) (omega (arith, ltb-false longestLine (length l) (z .0))),
         (
           begins-same reference l good one line ∙ z .1 .0,
           (
@@ -130,19 +142,7 @@ module _ (reference name l : List ℕ) (records : ℕ) (last : Pos) (ok : T (isR
                   rw pos (ne-eqb (newPos reference l .0) 0 (λ e. omega arith)),
                   (
                     rw (ref, is-true (isAllele? (newRef reference l)) (new reference l good one line .ref)),
-                    (
-                      rw (ref, written-4 reference l good one line) (new-alts reference l good one line),
-                      (
-                        rw (written-8 reference l good one line, written-9 reference l good one line, written-count reference l good one line) (rows .1 .1 .1 .1 .0),
-                        (
-                          rw (written-9 reference l good one line) (rows .1 .1 .1 .1 .1 .0),
-                          (
-                            rw (pos, ref) (on-reference reference l good one line),
-                            (rw pos (le-ltb (newPos reference l .0) (before .0) k), tt),
-                          ),
-                        ),
-                      ),
-                    ),
+                    none-join (altRows m) (laterRows reference before m) .1 (right-iff m .1 alt, behind),
                   ),
                 ),
               ),
