@@ -1,4 +1,4 @@
-// Calls the card's `allele` and `allele_refusal` on a small list, and prints for each call the part that is shown and the three numbers of
+// Calls the card's `allele` and `allele_refusal` on a small list, and prints for each call the part that is shown and the four numbers of
 // the refusal.
 use libc::STDOUT_FILENO;
 
@@ -16,6 +16,7 @@ fn show<'a>(reference: &'a [u8], name: &[u8], text: &'a [u8], entry: usize, alle
     print_number(refusal.number);
     print_number(refusal.list);
     print_number(refusal.line);
+    print_number(refusal.place);
     io::write_all(STDOUT_FILENO, b"\n");
 }
 
@@ -37,4 +38,8 @@ fn main() {
     show(b"GCATAAG", name, text, 0, 0);
     show(reference, b"chr2", text, 0, 0);
     show(reference, name, b"##fileformat=VCFv4.2", 0, 0);
+    let equal =
+        b"##fileformat=VCFv4.2\n#CHROM\tPOS\tID\tREF\tALT\tQUAL\tFILTER\tINFO\tFORMAT\tsample\n\
+          chr1\t2\t.\tCAT\tC,C\t.\tPASS\t.\tGT\t1/2\n";
+    show(reference, name, equal, 0, 0);
 }

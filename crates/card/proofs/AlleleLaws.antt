@@ -12,7 +12,7 @@
 --     shown-empty-iff        the empty part is shown exactly where the companion's number is not 0
 --     refused-begins         and then begins where the reference does
 -- Assumes nothing.
-use mathlib.Core.Bool.{Bool, true, false, _&&_}
+use mathlib.Core.Bool.{Bool, true, false}
 use mathlib.Core.List.{List, []}
 use mathlib.Core.Logic.{_↔_, _≢_, _⊎_, inl, inr, ⊎-elim}
 use mathlib.Core.Path.{_≡_, refl, sym, ap, _∙_}
@@ -20,16 +20,15 @@ use Prim.Native.Nat.{ℕ, _+_, _≤_}
 use native.Mathlib.Decide.{ℕ-discrete}
 use native.Mathlib.Omega.{arith}
 use borrow.Author.Tests.{eqb-true}
-use lib.Dec.{T, eqb, leb, leb→le}
+use lib.Dec.{T, eqb}
 use lib.ListN.{length, take, drop, length-drop}
 use lib.Seq.{length-take-le}
 use Rattle.bases.specs.Place.{placeOf}
-use Rattle.bases.specs.Letter.{allLetters?, basesOf}
+use Rattle.bases.specs.Letter.{basesOf}
 use Rattle.bases.proofs.ReferenceLaws.{reference-iff}
-use Rattle.bases.proofs.TestLaws.{both}
 use Rattle.bases.specs.Pick.{pick}
 use Rattle.vcf.specs.declared.entry.Entry.{Entry}
-use Rattle.fields.specs.Allele.{longestAllele, isAllele?, firstAlt, twoAlts?, secondAlt}
+use Rattle.fields.specs.Allele.{isAllele?, firstAlt, twoAlts?, secondAlt}
 use Rattle.fields.specs.Bytes.{COMMA, until}
 use Rattle.vcf.specs.Entry.{lineAt, entryOf, recordAt}
 use Rattle.fields.specs.Field.{fieldAt, field}
@@ -37,16 +36,17 @@ use Rattle.records.specs.Record.{posOn}
 use Rattle.vcf.specs.List.{longestText}
 use Rattle.vcf.proofs.JudgeLaws.{accepted-zero, text-fits}
 use Rattle.vcf.proofs.PartLaws.{first-within, second-within, first-bytes, second-bytes}
-use Rattle.records.proofs.RecordLineLaws.{first-allele, second-allele}
+use Rattle.fields.proofs.AlleleLaws.{allele-iff}
 use Rattle.card.specs.declared.allele.Shown.{Shown}
 use Rattle.card.specs.declared.refusal.Refusal.{Refusal}
 use Rattle.card.specs.Allele.{entryNumber, alleleRefusal, ofReference, ofText, shownOf, refusedShown, shown, bytesShown, ptrShown}
 use Rattle.card.specs.Refusal.{noRefusal}
-use Rattle.card.proofs.RefusalLaws.{NoneHolds, First, first-none, none-holds, refused-iff, answered-iff}
+use Rattle.bases.proofs.FirstLaws.{NoneHolds, First}
+use Rattle.card.proofs.RefusalLaws.{first-none, none-holds, refused-iff, answered-iff}
 use Rattle.card.proofs.ShownLaws.{alleleChecks, checks-numbered, shown-refused, Answered, answered}
 
 allele-some : (x : List ℕ) → T (isAllele? x) → 1 ≤ length x
-allele-some x t = leb→le 1 (length x) (both (leb 1 (length x)) (leb (length x) longestAllele && allLetters? x) .0 t .0)
+allele-some x t = allele-iff x .0 t .0
 
 module _ (reference name text : List ℕ) (i k : ℕ) where
   pub allele-refused-iff : (r : Refusal) → ((alleleRefusal reference name text i k ≡ r) × (r .number ≢ 0)) ↔ First r (alleleChecks reference name text i k)
@@ -152,8 +152,8 @@ module _ (reference name text : List ℕ) (i k : ℕ) where
         (λ e. rw (reference-shown e, length-take-le (length (field 3 line)) (drop (placeOf (posOn line) .0) reference) (rw length-drop (omega (arith, a .line .within))))
         (allele-some (field 3 line) (a .line .ref)))
         (⊎-elim
-        (λ e. rw (first-shown e) (allele-some (firstAlt (field 4 line)) (first-allele (field 3 line) (field 4 line) (a .line .alts))))
-        (λ e. rw (second-shown e) (allele-some (secondAlt (field 4 line)) (second-allele (field 3 line) (field 4 line) (a .line .alts) (two e)))))
+        (λ e. rw (first-shown e) (allele-some (firstAlt (field 4 line)) (a .line .alts .first)))
+        (λ e. rw (second-shown e) (allele-some (secondAlt (field 4 line)) (a .line .alts .second (two e)))))
         three
 
   refused-shows : alleleRefusal reference name text i k .number ≢ 0 → shown reference name text i k ≡ refusedShown (alleleRefusal reference name text i k)

@@ -34,7 +34,8 @@ use Rattle.card.proofs.AllLaws.{all-given}
 use Rattle.card.proofs.ClusterMarks.{marks-all}
 use Rattle.card.proofs.ListsLaws.{lists-numbered, lists-read}
 use Rattle.card.proofs.ReadyLaws.{lists-answerable}
-use Rattle.card.proofs.RefusalLaws.{NoneHolds, First, refused-iff, answered-iff}
+use Rattle.bases.proofs.FirstLaws.{NoneHolds, First}
+use Rattle.card.proofs.RefusalLaws.{refused-iff, answered-iff}
 
 -- The counts of each list add up to its entries.
 abbrev pub AddUp : List ℕ → List ℕ → Counted → Type 0

@@ -6,6 +6,7 @@
 use mathlib.Core.List.{List, [], _∷_}
 use mathlib.Core.Path.{_≡_, refl}
 use Prim.Native.Nat.{ℕ}
+use Rattle.bases.specs.First.{firstTold}
 use Rattle.bases.specs.Letter.{among?, letterOf, allLetters?}
 use Rattle.bases.specs.Period.{anyPeriod?}
 use Rattle.bases.specs.Same.{agree?}
@@ -14,7 +15,6 @@ use Rattle.listed.specs.Listed.{numbersFrom, listedFrom, listedOf}
 use Rattle.clusters.specs.Merged.{weave, merged}
 use Rattle.clusters.specs.Plan.{rest, plan, recordsFrom}
 use Rattle.matching.specs.Cut.{join}
-use Rattle.fields.specs.Allele.{altsWrong?}
 use Rattle.fields.specs.Bytes.{until}
 use Rattle.vcf.specs.Entry.{headerBytes, headerLines, entriesFrom}
 use Rattle.fields.specs.Field.{full?, skip}
@@ -22,11 +22,9 @@ use Rattle.fields.specs.Genotype.{copiesWrong?}
 use Rattle.fields.specs.Header.{headerWrong?}
 use Rattle.vcf.specs.List.{linesOf, judgeLines, judgeText}
 use Rattle.fields.specs.Pos.{allDigits?, isPos?, valueFrom}
-use Rattle.records.specs.Row.{firstRow}
 use Rattle.card.specs.Answer.{answer}
 use Rattle.card.specs.Entries.{listed, listedAfter}
 use Rattle.card.specs.Examples.{ascii, chr1, hom, text}
-use Rattle.card.specs.Refusal.{firstRefusal}
 
 -- A record: list, entry, line, cluster.
 abbrev entry : ℕ → ℕ → ℕ → ℕ → Listed
@@ -49,15 +47,15 @@ unfolding among? letterOf allLetters? anyPeriod? agree? numbersFrom listedFrom w
     allDigits? isPos? valueFrom
 example-7 = refl
 
-pub answered : listed (ascii "TGCCGT") chr1 first9 second9 1024 ≡ answer 0 0 0 3
-unfolding among? letterOf allLetters? anyPeriod? agree? numbersFrom listedFrom weave merged rest plan recordsFrom join altsWrong? until headerBytes headerLines entriesFrom full? skip copiesWrong?
-    headerWrong? linesOf judgeLines judgeText allDigits? isPos? valueFrom firstRow firstRefusal
+pub answered : listed (ascii "TGCCGT") chr1 first9 second9 1024 ≡ answer 0 0 0 0 3
+unfolding among? letterOf allLetters? anyPeriod? agree? numbersFrom listedFrom weave merged rest plan recordsFrom join until headerBytes headerLines entriesFrom full? skip copiesWrong?
+    headerWrong? linesOf judgeLines judgeText allDigits? isPos? valueFrom firstTold
 answered = refl
 
-pub too-few : listed (ascii "TGCCGT") chr1 first9 second9 1023 ≡ answer 2 0 0 0
-unfolding among? letterOf allLetters? firstRefusal
+pub too-few : listed (ascii "TGCCGT") chr1 first9 second9 1023 ≡ answer 2 0 0 0 0
+unfolding among? letterOf allLetters? firstTold
 too-few = refl
 
 pub unwritten : listedAfter (ascii "TGCCGT") chr1 first9 second9 (entry 0 0 0 0 ∷ []) ≡ entry 0 0 0 0 ∷ []
-unfolding among? letterOf allLetters? firstRefusal
+unfolding among? letterOf allLetters? firstTold
 unwritten = refl

@@ -31,7 +31,7 @@ use Rattle.card.specs.Refusal.{noRefusal, leastRoom, listsChecks}
 use Rattle.card.proofs.ClusterMarks.{marks-all}
 use Rattle.card.proofs.ListsLaws.{lists-read}
 use Rattle.card.proofs.PlanLaws.{plan-refused-iff, plan-answered-iff, answer-given}
-use Rattle.card.proofs.RefusalLaws.{NoneHolds, First}
+use Rattle.bases.proofs.FirstLaws.{NoneHolds, First}
 
 module _ (reference name first second : List ℕ) (room : ℕ) where
   pub entries-refused-iff : (r : Refusal) → ((listedRefusal reference name first second room ≡ r) × (r .number ≢ 0)) ↔ First r (listsChecks reference name first second (ltb room leastRoom))
@@ -41,11 +41,11 @@ module _ (reference name first second : List ℕ) (room : ℕ) where
   entries-answered-iff = plan-answered-iff reference name first second room
 
   pub entries-marks : listedRefusal reference name first second room .number ≡ 0
-      → listed reference name first second room ≡ answer 0 0 0 (length (allMarks reference (clustersOf reference first second)))
+      → listed reference name first second room ≡ answer 0 0 0 0 (length (allMarks reference (clustersOf reference first second)))
   entries-marks z =
       let r = lists-read reference name first (ltb room leastRoom) second z in
       answer-given {A = ℕ} (listedRefusal reference name first second room) (length (listedOf reference first second)) [] [] z .0
-      ∙ ap (answer 0 0 0) (listed-length reference first second ∙ sym (marks-all reference name first second (r .0 .accepted) (r .1)))
+      ∙ ap (answer 0 0 0 0) (listed-length reference first second ∙ sym (marks-all reference name first second (r .0 .accepted) (r .1)))
 
 -- Record k of clusters has the first entry of cluster k, and its number of entries.
 record-at : {X : Type 0} (cs : List (List X)) (i k : ℕ) (d : Cluster) → k < length cs

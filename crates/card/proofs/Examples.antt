@@ -2,6 +2,7 @@
 -- Assumes nothing.
 use mathlib.Core.Bool.{true}
 use mathlib.Core.Path.{_≡_, refl}
+use Rattle.bases.specs.First.{firstTold}
 use Rattle.bases.specs.Letter.{among?, letterOf, allLetters?}
 use Rattle.bases.specs.Period.{anyPeriod?}
 use Rattle.bases.specs.Reference.{isReference?}
@@ -19,7 +20,6 @@ use Rattle.matching.specs.Search.{first?, better, bestOver, search}
 use Rattle.normal.specs.Cut.{run, all?, shortest}
 use Rattle.normal.specs.Spelled.{normalEntry}
 use Rattle.written.specs.Written.{digitsOf, writtenLine, putLine, writtenLines, textOf, writtenText}
-use Rattle.fields.specs.Allele.{altsWrong?}
 use Rattle.fields.specs.Bytes.{until}
 use Rattle.vcf.specs.Entry.{headerBytes, entriesFrom}
 use Rattle.fields.specs.Field.{full?, skip}
@@ -27,7 +27,6 @@ use Rattle.fields.specs.Genotype.{copiesWrong?}
 use Rattle.fields.specs.Header.{headerWrong?}
 use Rattle.vcf.specs.List.{linesOf, judgeLines, judgeText}
 use Rattle.fields.specs.Pos.{allDigits?, isPos?, valueFrom}
-use Rattle.records.specs.Row.{firstRow}
 use Rattle.card.specs.Examples.{ascii, chr1, Example, normal, marks, table}
 
 -- The reference and the texts are accepted, and the definitions give what the example says.
@@ -53,6 +52,6 @@ six = (refl, refl, refl, refl, refl, refl)
 
 pub examples : All Holds table
 unfolding among? letterOf allLetters? anyPeriod? agree? weave merged rest plan recordsFrom totalScore chain? donorFrom edits score every? allowed? bestOf join first? better bestOver search run all?
-    shortest normalEntry digitsOf writtenLine putLine writtenLines textOf writtenText altsWrong? until headerBytes entriesFrom full? skip copiesWrong? headerWrong? linesOf judgeLines judgeText
-    allDigits? isPos? valueFrom firstRow
+    shortest normalEntry digitsOf writtenLine putLine writtenLines textOf writtenText until headerBytes entriesFrom full? skip copiesWrong? headerWrong? linesOf judgeLines judgeText
+    allDigits? isPos? valueFrom firstTold
 examples = (six, (three, (three, (three, (three, (six, (six, (six, (six, (six, (six, (six, (six, (six, tt))))))))))))))

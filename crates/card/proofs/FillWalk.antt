@@ -150,11 +150,11 @@ module _ (R : RattleType) (τ : Ty) (fill : Name) (items : List ℕ → List ℕ
           assigns ! (un ! (local ! 14 refl) (record { fits = fits })) (from ! (stop !)) (init ! 4 refl (tt, record { fits = fits })) $
           tells-values ! (fmOf 𝓤 H (W .laws) 𝓣) give.ended (give.clauses 𝓤 H A mem run) known-give ((tt, tt, tt, (length P, tt), (vint w32 (length P) ∷ [], tt)), tt) (id⊢ 𝓤 (emp 𝓤)) (id⊢ 𝓤 (emp 𝓤))
           (uint-makes 𝓤 H A W w32, tt) ((refl, fits), tt)
-          Answer″.lowered (Answer″.lowers .val-is) (answer 0 0 0 (length P)) (λ r ws. refl) (and-then ! (local ! 5 refl) (no-more !)) (λ good.
-          land ! (from ! (stop !)) (init ! 28 refl (LL.lawful Answer′.the-type Answer″.the-laws 𝓤 H A W .typed (answer 0 0 0 (length P)) _ good .0)) $
+          Answer″.lowered (Answer″.lowers .val-is) (answer 0 0 0 0 (length P)) (λ r ws. refl) (and-then ! (local ! 5 refl) (no-more !)) (λ good.
+          land ! (from ! (stop !)) (init ! 28 refl (LL.lawful Answer′.the-type Answer″.the-laws 𝓤 H A W .typed (answer 0 0 0 0 (length P)) _ good .0)) $
           returns ! (look ! 28 refl) $ move ! (28 ∷ 29 ∷ 26 ∷ 27 ∷ 24 ∷ 25 ∷ 22 ∷ 23 ∷ 20 ∷ 21 ∷ 18 ∷ 19 ∷ 16 ∷ 17 ∷ 14 ∷ 15 ∷ 12 ∷ 13 ∷ 10 ∷ 11 ∷ 8 ∷ 9 ∷ 6 ∷ 7 ∷ 4 ∷ 5 ∷ []) $
           leaves ! En (held _ ∷ held _ ∷ held _ ∷ held _ ∷ held _ ∷ held _ ∷ held _ ∷ held _ ∷ held _ ∷ held _ ∷ held _ ∷ held _ ∷ held _ ∷ []) $ move ! (1 ∷ []) $ drop ! $
-          by ! (exits (answer 0 0 0 (length P)) (put ys 0 P) good (sym (says-so .0)) (sym (says-so .1)))))
+          by ! (exits (answer 0 0 0 0 (length P)) (put ys 0 P) good (sym (says-so .0)) (sym (says-so .1)))))
 
       starts : Sq W (With (‵ (froom tyBool l₉ 0)) (‵ (froom word l₈ 0)) (‵ (froom Answer″.mir l₆ 0))) (runs (𝓣 .C) (𝓣 .Λ) En (judging R τ fill) (atRet En Post))
       starts =

@@ -17,6 +17,7 @@ pub mod EntryLaws
 pub mod Examples
 pub mod FillCall
 pub mod FillWalk
+pub mod GivenLaws
 pub mod ListSteps
 pub mod ListsLaws
 pub mod MarkDetermines

@@ -13,6 +13,7 @@ use Prim.Native.Nat.{ℕ}
 use native.Mathlib.Nat.{suc-ne-zero}
 use borrow.Author.Tests.{eq-eqb, ne-eqb, eqb-true, not-false}
 use lib.Dec.{T, T-not, eqb}
+use Rattle.bases.specs.First.{firstTold}
 use Rattle.bases.specs.Reference.{isReference?}
 use Rattle.bases.proofs.TestLaws.{of-true}
 use Rattle.vcf.specs.declared.list.Fault.{Fault}
@@ -27,7 +28,7 @@ pub record Read (reference name first : List ℕ) (small : Bool) : Type 0 where
   pub accepted : judgeText reference name first .number ≡ 0
 
 module _ (reference name : List ℕ) where
-  pub check-numbered : (j : ℕ) (text : List ℕ) → T (listCheck j reference name text .holds) → listCheck j reference name text .refused .number ≢ 0
+  pub check-numbered : (j : ℕ) (text : List ℕ) → T (listCheck j reference name text .holds) → listCheck j reference name text .told .number ≢ 0
   check-numbered j text h e = T-not (eqb (judgeText reference name text .number) 0) h (of-true (eq-eqb _ _ e))
 
   pub accepted-of : (j : ℕ) (text : List ℕ) → listCheck j reference name text .holds ≡ false → judgeText reference name text .number ≡ 0
@@ -37,21 +38,21 @@ module _ (reference name : List ℕ) where
     pub list-numbered : Numbered (listChecks reference name first small)
     list-numbered = (λ h. suc-ne-zero 0, (λ h. suc-ne-zero 1, (check-numbered 1 first, tt)))
 
-    pub list-no-reference : isReference? reference ≡ false → firstRefusal (listChecks reference name first small) ≡ refusal 1 0 0
-    unfolding firstRefusal
+    pub list-no-reference : isReference? reference ≡ false → firstRefusal (listChecks reference name first small) ≡ refusal 1 0 0 0
+    unfolding firstTold
     list-no-reference e = rw e
 
-    pub list-small : isReference? reference ≡ true → small ≡ true → firstRefusal (listChecks reference name first small) ≡ refusal 2 0 0
-    unfolding firstRefusal
+    pub list-small : isReference? reference ≡ true → small ≡ true → firstRefusal (listChecks reference name first small) ≡ refusal 2 0 0 0
+    unfolding firstTold
     list-small e s = rw (e, s)
 
     pub list-fault : isReference? reference ≡ true → small ≡ false → (f : Fault) → f ≡ judgeText reference name first → f .number ≢ 0
-        → firstRefusal (listChecks reference name first small) ≡ refusal (f .number) 1 (f .line)
-    unfolding firstRefusal
+        → firstRefusal (listChecks reference name first small) ≡ refusal (f .number) 1 (f .line) (f .place)
+    unfolding firstTold
     list-fault e s f g n = rw (e, s, ← g, ne-eqb (f .number) 0 n)
 
     pub list-clear : Read reference name first small → firstRefusal (listChecks reference name first small) ≡ noRefusal
-    unfolding firstRefusal
+    unfolding firstTold
     list-clear r = rw (r .right, r .roomy, eq-eqb _ _ (r .accepted))
 
     pub list-read : firstRefusal (listChecks reference name first small) .number ≡ 0 → Read reference name first small
@@ -72,13 +73,13 @@ module _ (reference name : List ℕ) where
       behind e = first-goes (listChecks reference name first small) (listCheck 2 reference name second ∷ []) list-numbered e
 
       pub lists-fault : firstRefusal (listChecks reference name first small) .number ≡ 0 → (f : Fault) → f ≡ judgeText reference name second → f .number ≢ 0
-          → firstRefusal (listsChecks reference name first second small) ≡ refusal (f .number) 2 (f .line)
-      unfolding firstRefusal
+          → firstRefusal (listsChecks reference name first second small) ≡ refusal (f .number) 2 (f .line) (f .place)
+      unfolding firstTold
       lists-fault e f g n = behind e ∙ rw (← g, ne-eqb (f .number) 0 n)
 
       pub lists-clear : firstRefusal (listChecks reference name first small) .number ≡ 0 → judgeText reference name second .number ≡ 0
           → firstRefusal (listsChecks reference name first second small) ≡ noRefusal
-      unfolding firstRefusal
+      unfolding firstTold
       lists-clear e g = behind e ∙ rw (eq-eqb _ _ g)
 
       pub lists-read : firstRefusal (listsChecks reference name first second small) .number ≡ 0

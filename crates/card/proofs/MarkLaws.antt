@@ -14,6 +14,7 @@ use native.Mathlib.Nat.{suc-ne-zero}
 use borrow.Author.Tests.{eq-eqb, ne-eqb, ltb-true, ltb-false, not-false, lt-ltb}
 use lib.Dec.{eqb, ltb}
 use lib.ListN.{length}
+use Rattle.bases.specs.First.{firstTold}
 use Rattle.bases.specs.Pick.{pick}
 use Rattle.bases.specs.Put.{put}
 use Rattle.bases.specs.Reference.{isReference?}
@@ -29,7 +30,8 @@ use Rattle.card.specs.Answer.{refusedAnswer, answerOf}
 use Rattle.card.specs.Refusal.{refusal, noRefusal, Check, check, firstRefusal, leastRoom, listsChecks}
 use Rattle.card.specs.Mark.{markValue, smallRoom?, markChecks, markRefusal, marked, answerAsked, markAfter}
 use Rattle.card.proofs.ListsLaws.{check-numbered, accepted-of, lists-numbered}
-use Rattle.card.proofs.RefusalLaws.{Numbered, NoneHolds, First, none-holds, first-keeps, first-goes, refused-iff, answered-iff}
+use Rattle.bases.proofs.FirstLaws.{NoneHolds, First}
+use Rattle.card.proofs.RefusalLaws.{Numbered, none-holds, first-keeps, first-goes, refused-iff, answered-iff}
 
 module _ (reference name first second : List ℕ) (plan : List Cluster) (k room : ℕ) where
   pub mark-numbered : Numbered (markChecks reference name first second plan k room)
@@ -85,8 +87,8 @@ module _ (reference name first second : List ℕ) (plan : List Cluster) (k : ℕ
 
   abbrev asks : List Check
   asks =
-      check (not (isPlan? (planOf reference first second) plan)) (refusal 17 0 0)
-      ∷ check (not (isCluster? (clustersOf reference first second) k)) (refusal 16 0 0)
+      check (not (isPlan? (planOf reference first second) plan)) (refusal 17 0 0 0)
+      ∷ check (not (isCluster? (clustersOf reference first second) k)) (refusal 16 0 0 0)
       ∷ []
 
   pub mark-lists : firstRefusal (listsChecks reference name first second (smallRoom? (length plan) (length marks))) .number ≢ 0
@@ -100,7 +102,7 @@ module _ (reference name first second : List ℕ) (plan : List Cluster) (k : ℕ
   pub mark-read : firstRefusal (listsChecks reference name first second (smallRoom? (length plan) (length marks))) .number ≡ 0
       → (marked reference name first second plan k (length marks) ≡ answerAsked (isPlan? (planOf reference first second) plan) (askedFor reference (clustersOf reference first second) k))
       × (markAfter reference name first second plan k marks ≡ pick (isPlan? (planOf reference first second) plan) (marksAfter reference (clustersOf reference first second) k marks) marks)
-  unfolding firstRefusal
+  unfolding firstTold
   mark-read z =
       let e : markRefusal reference name first second plan k (length marks) ≡ firstRefusal asks =
       first-goes (listsChecks reference name first second (smallRoom? (length plan) (length marks))) asks (lists-numbered reference name first (smallRoom? (length plan) (length marks)) second) z in
@@ -110,9 +112,9 @@ module _ (reference name first second : List ℕ) (plan : List Cluster) (k : ℕ
       c = clusterAt (clustersOf reference first second) k
 
       go : (s t : Bool)
-          → (answerOf (pick (not s) (refusal 17 0 0) (pick (not t) (refusal 16 0 0) noRefusal)) (markValue reference c)
+          → (answerOf (pick (not s) (refusal 17 0 0 0) (pick (not t) (refusal 16 0 0 0) noRefusal)) (markValue reference c)
           ≡ answerAsked s (pick t (markedOf reference c) notFound))
-          × (pick (eqb (pick (not s) (refusal 17 0 0) (pick (not t) (refusal 16 0 0) noRefusal) .number) 0)
+          × (pick (eqb (pick (not s) (refusal 17 0 0 0) (pick (not t) (refusal 16 0 0 0) noRefusal) .number) 0)
           (pick t (put marks (firstEntry (clustersOf reference first second) k) (marksOf reference c)) marks) marks
           ≡ pick s (pick t (put marks (firstEntry (clustersOf reference first second) k) (marksOf reference c)) marks) marks)
       go true true = (refl, refl)

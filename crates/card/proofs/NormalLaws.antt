@@ -16,7 +16,8 @@ use Rattle.card.specs.Answer.{answer, refusedAnswer}
 use Rattle.card.specs.Normal.{normalRefusal, written, normalAfter}
 use Rattle.card.specs.Refusal.{noRefusal, listChecks}
 use Rattle.card.proofs.ListsLaws.{list-numbered}
-use Rattle.card.proofs.RefusalLaws.{NoneHolds, First, refused-iff, answered-iff}
+use Rattle.bases.proofs.FirstLaws.{NoneHolds, First}
+use Rattle.card.proofs.RefusalLaws.{refused-iff, answered-iff}
 
 module _ (reference name text : List ℕ) (room : ℕ) where
   pub normal-refused-iff : (r : Refusal) → ((normalRefusal reference name text room ≡ r) × (r .number ≢ 0)) ↔ First r (listChecks reference name text (ltb room (length text)))
@@ -33,7 +34,7 @@ module _ (reference name text out : List ℕ) where
       (rw e, rw e)
 
   pub normal-given : normalRefusal reference name text (length out) .number ≡ 0
-      → (written reference name text (length out) ≡ answer 0 0 0 (length (writtenText reference text))) × (normalAfter reference name text out ≡ put out 0 (writtenText reference text))
+      → (written reference name text (length out) ≡ answer 0 0 0 0 (length (writtenText reference text))) × (normalAfter reference name text out ≡ put out 0 (writtenText reference text))
   normal-given z =
       let e = eq-eqb (normalRefusal reference name text (length out) .number) 0 z in
       (rw e, rw e)

@@ -14,7 +14,8 @@ use Rattle.card.specs.Answer.{answer, refusedAnswer, answerOf}
 use Rattle.card.specs.Plan.{planRefusal}
 use Rattle.card.specs.Refusal.{noRefusal, leastRoom, listsChecks}
 use Rattle.card.proofs.ListsLaws.{lists-numbered}
-use Rattle.card.proofs.RefusalLaws.{NoneHolds, First, refused-iff, answered-iff}
+use Rattle.bases.proofs.FirstLaws.{NoneHolds, First}
+use Rattle.card.proofs.RefusalLaws.{refused-iff, answered-iff}
 
 module _ (reference name first second : List ℕ) (room : ℕ) where
   pub plan-refused-iff : (r : Refusal) → ((planRefusal reference name first second room ≡ r) × (r .number ≢ 0)) ↔ First r (listsChecks reference name first second (ltb room leastRoom))
@@ -29,7 +30,7 @@ module _ {A : Type 0} (r : Refusal) (n : ℕ) (written ys : List A) where
       let e = ne-eqb (r .number) 0 h in
       (rw e, rw e)
 
-  pub answer-given : r .number ≡ 0 → (answerOf r n ≡ answer 0 0 0 n) × (pick (eqb (r .number) 0) written ys ≡ written)
+  pub answer-given : r .number ≡ 0 → (answerOf r n ≡ answer 0 0 0 0 n) × (pick (eqb (r .number) 0) written ys ≡ written)
   answer-given z =
       let e = eq-eqb (r .number) 0 z in
       (rw e, rw e)

@@ -15,6 +15,7 @@ use native.Mathlib.Nat.{suc-ne-zero}
 use borrow.Author.Tests.{eq-eqb, ne-eqb, eqb-true, leb-false, ltb-false, not-false, le-leb, lt-leb, lt-ltb, le-ltb}
 use lib.Dec.{T, T-not, eqb, leb, ltb}
 use lib.ListN.{length}
+use Rattle.bases.specs.First.{firstTold}
 use Rattle.bases.specs.Reference.{isReference?}
 use Rattle.bases.proofs.TestLaws.{of-true, neither}
 use Rattle.fields.specs.Allele.{altCount}
@@ -28,13 +29,13 @@ use Rattle.vcf.specs.declared.entry.Entry.{Entry}
 use Rattle.vcf.specs.declared.list.Fault.{Fault}
 use Rattle.card.specs.declared.refusal.Refusal.{Refusal}
 use Rattle.card.specs.Allele.{noEntry, entryNumber, noAllele?, alleleRefusal, shownOf, refusedShown, shown}
-use Rattle.card.specs.Refusal.{refusal, noRefusal, Check, check, firstRefusal, referenceCheck, listCheck}
+use Rattle.card.specs.Refusal.{refusal, noRefusal, Check, check, referenceCheck, listCheck}
 use Rattle.card.proofs.RefusalLaws.{Numbered, none-holds}
 
 module _ (reference name text : List ℕ) (i k : ℕ) where
   -- Row 1; the rows of the list; row 18.
   abbrev pub alleleChecks : List Check
-  alleleChecks = referenceCheck reference ∷ listCheck 1 reference name text ∷ check (noAllele? text i k) (refusal 18 0 0) ∷ []
+  alleleChecks = referenceCheck reference ∷ listCheck 1 reference name text ∷ check (noAllele? text i k) (refusal 18 0 0 0) ∷ []
 
   pub checks-numbered : Numbered alleleChecks
   checks-numbered = (
@@ -50,28 +51,28 @@ module _ (reference name text : List ℕ) (i k : ℕ) where
   unfolding shown
   shown-there e = rw (eq-eqb _ _ e)
 
-  pub shown-no-reference : isReference? reference ≡ false → shown reference name text i k ≡ refusedShown (refusal 1 0 0)
-  unfolding firstRefusal
-  shown-no-reference e = shown-refused (refusal 1 0 0) (rw e) (suc-ne-zero 0)
+  pub shown-no-reference : isReference? reference ≡ false → shown reference name text i k ≡ refusedShown (refusal 1 0 0 0)
+  unfolding firstTold
+  shown-no-reference e = shown-refused (refusal 1 0 0 0) (rw e) (suc-ne-zero 0)
 
   module _ (right : isReference? reference ≡ true) where
-    pub shown-fault : (f : Fault) → f ≡ judgeText reference name text → f .number ≢ 0 → shown reference name text i k ≡ refusedShown (refusal (f .number) 1 (f .line))
-    unfolding firstRefusal
-    shown-fault f e n = shown-refused (refusal (f .number) 1 (f .line)) (rw (right, ← e, ne-eqb (f .number) 0 n)) n
+    pub shown-fault : (f : Fault) → f ≡ judgeText reference name text → f .number ≢ 0 → shown reference name text i k ≡ refusedShown (refusal (f .number) 1 (f .line) (f .place))
+    unfolding firstTold
+    shown-fault f e n = shown-refused (refusal (f .number) 1 (f .line) (f .place)) (rw (right, ← e, ne-eqb (f .number) 0 n)) n
 
     module _ (accepted : judgeText reference name text .number ≡ 0) where
-      refusal-allele : noAllele? text i k ≡ true → alleleRefusal reference name text i k ≡ refusal 18 0 0
-      unfolding firstRefusal
+      refusal-allele : noAllele? text i k ≡ true → alleleRefusal reference name text i k ≡ refusal 18 0 0 0
+      unfolding firstTold
       refusal-allele h = rw (right, eq-eqb _ _ accepted, h)
 
       refusal-none : noAllele? text i k ≡ false → alleleRefusal reference name text i k ≡ noRefusal
-      unfolding firstRefusal
+      unfolding firstTold
       refusal-none h = rw (right, eq-eqb _ _ accepted, h)
 
-      pub shown-no-entry : length text ≤ recordAt text i → shown reference name text i k ≡ refusedShown (refusal 18 0 0)
+      pub shown-no-entry : length text ≤ recordAt text i → shown reference name text i k ≡ refusedShown (refusal 18 0 0 0)
       shown-no-entry h =
           let none : noAllele? text i k ≡ true = rw (le-leb (length (entriesOf text)) i (entry-none text i (recordsAt text) h)) in
-          shown-refused (refusal 18 0 0) (refusal-allele none) (suc-ne-zero 17)
+          shown-refused (refusal 18 0 0 0) (refusal-allele none) (suc-ne-zero 17)
 
       -- Record i begins at `at`, and e is the entry on its line.
       module _ (at : ℕ) (found : at ≡ recordAt text i) (there : at < length text) (e : Entry) (read : e ≡ entryOf (lineAt text at) at) where
@@ -81,8 +82,8 @@ module _ (reference name text : List ℕ) (i k : ℕ) where
         allele-test : noAllele? text i k ≡ ltb (e .alts) k
         allele-test = rw (lt-leb (length (entriesOf text)) i (entries-iff text i .1 (rw found at there)), is-entry)
 
-        pub shown-no-allele : e .alts < k → shown reference name text i k ≡ refusedShown (refusal 18 0 0)
-        shown-no-allele h = shown-refused (refusal 18 0 0) (refusal-allele (allele-test ∙ lt-ltb _ k h)) (suc-ne-zero 17)
+        pub shown-no-allele : e .alts < k → shown reference name text i k ≡ refusedShown (refusal 18 0 0 0)
+        shown-no-allele h = shown-refused (refusal 18 0 0 0) (refusal-allele (allele-test ∙ lt-ltb _ k h)) (suc-ne-zero 17)
 
         pub shown-entry : k ≤ e .alts → shown reference name text i k ≡ shownOf e k
         shown-entry h =

@@ -16,12 +16,13 @@ use Rattle.card.specs.Answer.{refusedAnswer}
 use Rattle.card.specs.Mark.{smallRoom?}
 use Rattle.card.specs.Refusal.{firstRefusal, leastRoom, listsChecks}
 
--- An answer's first three numbers, the number of clusters, and the score summed over the decided ones.
+-- An answer's first four numbers, the number of clusters, and the score summed over the decided ones.
 abbrev pub allMarked : Answer → ℕ → ℕ → AllMarked
-allMarked a clusters score = record { number = a .number; list = a .list; line = a .line; clusters = clusters; score = score }
+allMarked a clusters score =
+    record { number = a .number; list = a .list; line = a .line; place = a .place; clusters = clusters; score = score }
 
 module _ (reference name first second : List ℕ) (plan marks : ℕ) where
-  -- Why nothing is marked, where so many records and marks are lent; three zeros where all is.
+  -- Why nothing is marked, where so many records and marks are lent; four zeros where all is.
   abbrev pub allRefusal : Refusal
   allRefusal = firstRefusal (listsChecks reference name first second (smallRoom? plan marks))
 

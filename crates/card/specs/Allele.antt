@@ -28,10 +28,10 @@ entryNumber text i = getD (entriesOf text) i noEntry
 abbrev pub noAllele? : List ℕ → ℕ → ℕ → Bool
 noAllele? text i k = leb (length (entriesOf text)) i || ltb (entryNumber text i .alts) k
 
--- Why allele k of entry i is not shown; three zeros where it is.
+-- Why allele k of entry i is not shown; four zeros where it is.
 abbrev pub alleleRefusal : List ℕ → List ℕ → List ℕ → ℕ → ℕ → Refusal
 alleleRefusal reference name text i k =
-    firstRefusal (referenceCheck reference ∷ listCheck 1 reference name text ∷ check (noAllele? text i k) (refusal 18 0 0) ∷ [])
+    firstRefusal (referenceCheck reference ∷ listCheck 1 reference name text ∷ check (noAllele? text i k) (refusal 18 0 0 0) ∷ [])
 
 -- A part of the reference; a part of the text.
 abbrev pub ofReference : Place → ℕ → Shown

@@ -15,12 +15,13 @@ use Rattle.card.specs.declared.refusal.Refusal.{Refusal}
 use Rattle.card.specs.Answer.{refusedAnswer}
 use Rattle.card.specs.Refusal.{firstRefusal, leastRoom, listsChecks}
 
--- An answer's first three numbers, and six counts.
+-- An answer's first four numbers, and six counts.
 abbrev pub countedOf : Answer → Counts → Counted
 countedOf a c = record {
   number = a .number;
   list = a .list;
   line = a .line;
+  place = a .place;
   matched1 = c .first .matched;
   unmatched1 = c .first .unmatched;
   undecided1 = c .first .undecided;
@@ -37,7 +38,7 @@ abbrev pub noCounts : Counts
 noCounts = record { first = noCount; second = noCount }
 
 module _ (reference name first second marks : List ℕ) where
-  -- Why nothing is counted; three zeros where the marks are. Row 2: there are fewer than 1,024.
+  -- Why nothing is counted; four zeros where the marks are. Row 2: there are fewer than 1,024.
   abbrev pub countRefusal : Refusal
   countRefusal = firstRefusal (listsChecks reference name first second (ltb (length marks) leastRoom))
 

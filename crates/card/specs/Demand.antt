@@ -38,7 +38,7 @@ abbrev pub inputOf : Call → Input
 inputOf (mark i k) = i
 inputOf (markAll i) = i
 
--- Why the call is refused; three zeros where it is answered.
+-- Why the call is refused; four zeros where it is answered.
 abbrev pub refusalOf : Call → Refusal
 refusalOf (mark i k) = markRefusal (i .reference) (i .name) (i .first) (i .second) (i .plan) k (i .room)
 refusalOf (markAll i) = allRefusal (i .reference) (i .name) (i .first) (i .second) (length (i .plan)) (i .room)

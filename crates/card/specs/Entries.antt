@@ -14,7 +14,7 @@ use Rattle.card.specs.Answer.{answerOf}
 use Rattle.card.specs.Plan.{planRefusal}
 
 module _ (reference name first second : List ℕ) (room : ℕ) where
-  -- Why the entries are not told; three zeros where they are.
+  -- Why the entries are not told; four zeros where they are.
   abbrev pub listedRefusal : Refusal
   listedRefusal = planRefusal reference name first second room
 

@@ -34,11 +34,11 @@ module _ (reference name first second : List ℕ) (plan : List Cluster) (k room 
   abbrev pub markChecks : List Check
   markChecks =
       listsChecks reference name first second (smallRoom? (length plan) room)
-      ++ (check (not (isPlan? (planOf reference first second) plan)) (refusal 17 0 0)
-      ∷ check (not (isCluster? (clustersOf reference first second) k)) (refusal 16 0 0)
+      ++ (check (not (isPlan? (planOf reference first second) plan)) (refusal 17 0 0 0)
+      ∷ check (not (isCluster? (clustersOf reference first second) k)) (refusal 16 0 0 0)
       ∷ [])
 
-  -- Why cluster k is not marked, where so many marks are lent; three zeros where it is.
+  -- Why cluster k is not marked, where so many marks are lent; four zeros where it is.
   abbrev pub markRefusal : Refusal
   markRefusal = firstRefusal markChecks
 
@@ -49,7 +49,7 @@ module _ (reference name first second : List ℕ) (plan : List Cluster) (k room 
 -- What is answered where both lists are read: is the plan given theirs, and what was told of the asked cluster.
 abbrev pub answerAsked : Bool → Marked → Answer
 answerAsked same m =
-    pick same (pick (m .found) (answer 0 0 0 (pick (m .decided) (m .score) UNDECIDED)) (answer 16 0 0 0)) (answer 17 0 0 0)
+    pick same (pick (m .found) (answer 0 0 0 0 (pick (m .decided) (m .score) UNDECIDED)) (answer 16 0 0 0 0)) (answer 17 0 0 0 0)
 
 -- The lent marks afterwards: those of the cluster's entries are written.
 abbrev pub markAfter : List ℕ → List ℕ → List ℕ → List ℕ → List Cluster → ℕ → List ℕ → List ℕ

@@ -13,7 +13,7 @@ use Rattle.card.specs.Answer.{answerOf}
 use Rattle.card.specs.Refusal.{firstRefusal, listChecks}
 
 module _ (reference name text : List ℕ) (room : ℕ) where
-  -- Why the list is not written into so much room; three zeros where it is. Row 2: the room is below the length of the given text.
+  -- Why the list is not written into so much room; four zeros where it is. Row 2: the room is below the length of the given text.
   abbrev pub normalRefusal : Refusal
   normalRefusal = firstRefusal (listChecks reference name text (ltb room (length text)))
 

@@ -14,7 +14,7 @@ use Rattle.card.specs.Answer.{answerOf}
 use Rattle.card.specs.Refusal.{firstRefusal, leastRoom, listsChecks}
 
 module _ (reference name first second : List ℕ) (room : ℕ) where
-  -- Why there is no plan; three zeros where there is.
+  -- Why there is no plan; four zeros where there is.
   abbrev pub planRefusal : Refusal
   planRefusal = firstRefusal (listsChecks reference name first second (ltb room leastRoom))
 

@@ -11,17 +11,18 @@ use clusters::plan::Cluster;
 use clusters::plan::fill_plan;
 use marks::mark::mark_every;
 
-// What is answered: the three numbers of a refusal, or zeros; the number of clusters; and the score summed over the decided ones.
+// What is answered: the four numbers of a refusal, or zeros; the number of clusters; and the score summed over the decided ones.
 #[repr(C)]
 pub struct AllMarked {
     pub number: u32,
     pub list: u32,
     pub line: u32,
+    pub place: u32,
     pub clusters: u32,
     pub score: u32,
 }
 
-// An answer's first three numbers, with these.
+// An answer's first four numbers, with these.
 fn all_marked(answer: Answer, clusters: u32, score: u32) -> AllMarked
     ensures { λ r. ⌜ r ≡ allMarked answer clusters score ⌝ }
 {
@@ -29,6 +30,7 @@ fn all_marked(answer: Answer, clusters: u32, score: u32) -> AllMarked
         number: answer.number,
         list: answer.list,
         line: answer.line,
+        place: answer.place,
         clusters,
         score,
     }

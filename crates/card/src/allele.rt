@@ -22,11 +22,16 @@ pub struct Shown {
 }
 
 // Nothing is shown, for this reason.
-fn refused(number: u32, list: u32, line: u32) -> Shown
-    ensures { λ r. ⌜ r ≡ refusedShown (refusal number list line) ⌝ }
+fn refused(number: u32, list: u32, line: u32, place: u32) -> Shown
+    ensures { λ r. ⌜ r ≡ refusedShown (refusal number list line place) ⌝ }
 {
     Shown {
-        refusal: Refusal { number, list, line },
+        refusal: Refusal {
+            number,
+            list,
+            line,
+            place,
+        },
         text: false,
         part: Part { at: 0, len: 0 },
     }
@@ -41,6 +46,7 @@ fn shown_of(entry: Entry, k: usize) -> Shown
         number: 0,
         list: 0,
         line: 0,
+        place: 0,
     };
     if k == 0 {
         let pos = entry.pos;
@@ -74,25 +80,25 @@ pub fn allele_shown(
     ensures { λ r. ⌜ r ≡ shown (now (reference .entry)) (now (name .entry)) (now (text .entry)) entry allele ⌝ }
 {
     if !is_reference(reference) {
-        return refused(1, 0, 0);
+        return refused(1, 0, 0, 0);
     }
     let fault = judge(reference, name, text);
     let number = fault.number;
     if number != 0 {
-        return refused(number, 1, fault.line as u32);
+        return refused(number, 1, fault.line as u32, fault.place as u32);
     }
     let at = record_at(text, entry);
     if text.len() <= at {
-        return refused(18, 0, 0);
+        return refused(18, 0, 0, 0);
     }
     let e = entry_at(text, at);
     if e.alts < allele {
-        return refused(18, 0, 0);
+        return refused(18, 0, 0, 0);
     }
     shown_of(e, allele)
 }
 
-// Why allele k of entry i is not shown: three numbers, zeros where `allele` on the same input shows it.
+// Why allele k of entry i is not shown: four numbers, zeros where `allele` on the same input shows it.
 pub fn allele_refusal(
     reference: &[u8],
     name: &[u8],

@@ -9,13 +9,14 @@ use marks::count::Count;
 use marks::count::Counts;
 use marks::count::count_lists;
 
-// What is answered: the three numbers of a refusal, or zeros; then how many entries of list 1 are matched, unmatched and undecided, and how
+// What is answered: the four numbers of a refusal, or zeros; then how many entries of list 1 are matched, unmatched and undecided, and how
 // many of list 2.
 #[repr(C)]
 pub struct Counted {
     pub number: u32,
     pub list: u32,
     pub line: u32,
+    pub place: u32,
     pub matched1: u32,
     pub unmatched1: u32,
     pub undecided1: u32,
@@ -24,7 +25,7 @@ pub struct Counted {
     pub undecided2: u32,
 }
 
-// An answer's first three numbers, with these counts.
+// An answer's first four numbers, with these counts.
 fn counted_of(answer: Answer, counts: Counts) -> Counted
     requires { ⌜
         Few (counts .first)
@@ -38,6 +39,7 @@ fn counted_of(answer: Answer, counts: Counts) -> Counted
         number: answer.number,
         list: answer.list,
         line: answer.line,
+        place: answer.place,
         matched1: first.matched as u32,
         unmatched1: first.unmatched as u32,
         undecided1: first.undecided as u32,

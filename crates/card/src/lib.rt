@@ -1,5 +1,5 @@
-// The card's calls. None has a `requires`: bad input is refused with the number, list and line of its row, and a refused call changes
-// nothing.
+// The card's calls. None has a `requires`: bad input is refused with the number, list, line and place of its row, and a refused call
+// changes nothing.
 pub mod all;
 pub mod allele;
 pub mod answer;

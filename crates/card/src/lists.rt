@@ -1,4 +1,4 @@
-// Are the lists of a call turned away? Each answer has the three numbers of the first row that holds, number 0 where none does, and value
+// Are the lists of a call turned away? Each answer has the four numbers of the first row that holds, four zeros where none does, and value
 // 0.
 ghost use mathlib.Core.Path.{_≡_};
 ghost use Rattle.card.specs.Answer.{refusedAnswer};
@@ -16,16 +16,16 @@ pub fn list_refused(reference: &[u8], name: &[u8], text: &[u8], small: bool) -> 
         ⌝ }
 {
     if !is_reference(reference) {
-        return refuse(1, 0, 0);
+        return refuse(1, 0, 0, 0);
     }
     if small {
-        return refuse(2, 0, 0);
+        return refuse(2, 0, 0, 0);
     }
     let fault = judge(reference, name, text);
     if fault.number == 0 {
-        return refuse(0, 0, 0);
+        return refuse(0, 0, 0, 0);
     }
-    refuse(fault.number, 1, fault.line as u32)
+    refuse(fault.number, 1, fault.line as u32, fault.place as u32)
 }
 
 // The rows of a call with two: the same, then list 2.
@@ -47,9 +47,9 @@ pub fn lists_refused(
     }
     let fault = judge(reference, name, second);
     if fault.number == 0 {
-        return refuse(0, 0, 0);
+        return refuse(0, 0, 0, 0);
     }
-    refuse(fault.number, 2, fault.line as u32)
+    refuse(fault.number, 2, fault.line as u32, fault.place as u32)
 }
 
 // The least room that is lent for a plan, in clusters, for entries, and for marks, in bytes.

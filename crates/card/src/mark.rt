@@ -44,11 +44,11 @@ fn mark_planned(
         ⌝ }
 {
     if !same {
-        return refuse(17, 0, 0);
+        return refuse(17, 0, 0, 0);
     }
     let told = mark_one(reference, first, second, cluster, marks);
     if !told.found {
-        return refuse(16, 0, 0);
+        return refuse(16, 0, 0, 0);
     }
     if !told.decided {
         return give(UNDECIDED);

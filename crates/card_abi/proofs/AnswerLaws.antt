@@ -1,7 +1,8 @@
 -- The call `card_allele` answers exactly the part that `allele` shows.
 --     answer-refused, answer-there     the answer, by the refusal
 --     allele-answer-number             its number is that of the companion `allele_refusal`
---     allele-answer-refusal            where that is not 0, its first three numbers are the companion's, and the fourth is 0
+--     allele-answer-refusal            where that is not 0, its first four numbers are the companion's, and the fifth is 0
+--     allele-answer-place              where it is 0, an allele is shown, and the place is 0
 --     allele-answer-bytes              its list, line and value are the slice, the start and the length of the bytes that `allele` shows
 --     allele-answer-begins             where its number is 0, what `allele` shows begins in that slice at that start
 -- Assumes nothing.
@@ -29,7 +30,7 @@ module _ (s : Shown) where
   unfolding alleleAnswer
   answer-refused n = rw (ne-eqb (s .refusal .number) 0 n)
 
-  pub answer-there : s .refusal .number ≡ 0 → alleleAnswer s ≡ answer 0 (pick (s .text) 1 0) (s .part .at) (s .part .len)
+  pub answer-there : s .refusal .number ≡ 0 → alleleAnswer s ≡ answer 0 (pick (s .text) 1 0) (s .part .at) 0 (s .part .len)
   unfolding alleleAnswer
   answer-there e = rw (eq-eqb (s .refusal .number) 0 e)
 
@@ -46,6 +47,10 @@ module _ (reference name text : List ℕ) (i k : ℕ) where
 
   pub allele-answer-number : answered .number ≡ alleleRefusal reference name text i k .number
   allele-answer-number = answer-number (shown reference name text i k) ∙ ap (λ (r : Refusal). r .number) (shown-refusal reference name text i k)
+
+  pub allele-answer-place : answered .number ≡ 0 → answered .place ≡ 0
+  allele-answer-place z =
+      ap (λ (a : Answer). a .place) (answer-there (shown reference name text i k) (sym (answer-number (shown reference name text i k)) ∙ z))
 
   pub allele-answer-refusal : alleleRefusal reference name text i k .number ≢ 0 → answered ≡ refusedAnswer (alleleRefusal reference name text i k)
   allele-answer-refusal n =

@@ -3,12 +3,12 @@
 use mathlib.Core.List.{List, [], _∷_}
 use mathlib.Core.Path.{_≡_, refl}
 use Prim.Native.Nat.{ℕ}
+use Rattle.bases.specs.First.{firstTold}
 use Rattle.marks.specs.Counts.{howMany, ownMarks}
 use Rattle.compare.specs.Compared.{comparedText}
 use Rattle.bases.specs.Letter.{among?, letterOf, allLetters?}
 use Rattle.bases.specs.Period.{anyPeriod?}
 use Rattle.bases.specs.Same.{agree?}
-use Rattle.card.specs.Refusal.{firstRefusal}
 use Rattle.marks.specs.Marks.{totalScore}
 use Rattle.clusters.specs.Merged.{weave, merged}
 use Rattle.clusters.specs.Plan.{rest, plan, recordsFrom}
@@ -22,7 +22,6 @@ use Rattle.matching.specs.BestOf.{every?, allowed?, bestOf}
 use Rattle.matching.specs.Cut.{join}
 use Rattle.matching.specs.Search.{first?, better, bestOver, search}
 use Rattle.written.specs.Written.{digitsOf}
-use Rattle.fields.specs.Allele.{altsWrong?}
 use Rattle.fields.specs.Bytes.{until}
 use Rattle.vcf.specs.Entry.{headerBytes, entriesFrom}
 use Rattle.fields.specs.Field.{skip, full?}
@@ -30,7 +29,6 @@ use Rattle.fields.specs.Genotype.{copiesWrong?}
 use Rattle.fields.specs.Header.{headerWrong?}
 use Rattle.vcf.specs.List.{linesOf, judgeLines, judgeText}
 use Rattle.fields.specs.Pos.{allDigits?, valueFrom, isPos?}
-use Rattle.records.specs.Row.{firstRow}
 use Rattle.listed.specs.Listed.{numbersFrom}
 use Rattle.compare.specs.Printed.{entryLines}
 
@@ -65,14 +63,14 @@ printed =
     108 ∷ 9 ∷ 50 ∷ 9 ∷ 48 ∷ 9 ∷ 48 ∷ 9 ∷ 50 ∷ 10 ∷ []
 
 pub example-1 : comparedText reference chromName first second ≡ printed
-unfolding among? letterOf allLetters? anyPeriod? agree? altsWrong? allDigits? valueFrom isPos? copiesWrong? skip full? linesOf judgeLines judgeText until headerWrong? firstRow headerBytes entriesFrom
-    digitsOf chain? edits donorFrom over first? better bestOver search score join every? allowed? bestOf totalScore weave merged rest plan recordsFrom firstRefusal howMany ownMarks numbersFrom
+unfolding among? letterOf allLetters? anyPeriod? agree? allDigits? valueFrom isPos? copiesWrong? skip full? linesOf judgeLines judgeText until headerWrong? firstTold headerBytes entriesFrom
+    digitsOf chain? edits donorFrom over first? better bestOver search score join every? allowed? bestOf totalScore weave merged rest plan recordsFrom howMany ownMarks numbersFrom
     entryLines comparedText
 example-1 = refl
 
--- refused 1 0 0
-pub example-empty : comparedText [] chromName [] [] ≡ 114 ∷ 101 ∷ 102 ∷ 117 ∷ 115 ∷ 101 ∷ 100 ∷ 9 ∷ 49 ∷ 9 ∷ 48 ∷ 9 ∷ 48 ∷ 10 ∷ []
-unfolding among? letterOf allLetters? anyPeriod? agree? altsWrong? allDigits? valueFrom isPos? copiesWrong? skip full? linesOf judgeLines judgeText until headerWrong? firstRow headerBytes entriesFrom
-    digitsOf chain? edits donorFrom over first? better bestOver search score join every? allowed? bestOf totalScore weave merged rest plan recordsFrom firstRefusal howMany ownMarks numbersFrom
+-- refused 1 0 0 0
+pub example-empty : comparedText [] chromName [] [] ≡ 114 ∷ 101 ∷ 102 ∷ 117 ∷ 115 ∷ 101 ∷ 100 ∷ 9 ∷ 49 ∷ 9 ∷ 48 ∷ 9 ∷ 48 ∷ 9 ∷ 48 ∷ 10 ∷ []
+unfolding among? letterOf allLetters? anyPeriod? agree? allDigits? valueFrom isPos? copiesWrong? skip full? linesOf judgeLines judgeText until headerWrong? firstTold headerBytes entriesFrom
+    digitsOf chain? edits donorFrom over first? better bestOver search score join every? allowed? bestOf totalScore weave merged rest plan recordsFrom howMany ownMarks numbersFrom
     entryLines comparedText
 example-empty = refl

@@ -35,12 +35,12 @@ module _ (file name first second : List ℕ) (answer : AllMarked) (plan : List C
   tells : Tells answer (refusalOf file name first second)
   tells = rw answered (files-tell file name first second before long)
 
-  pub told-printable : (answer .number ≤ largestNumber) × (answer .list ≤ largestNumber) × (answer .line ≤ largestNumber)
+  pub told-printable : (answer .number ≤ largestNumber) × (answer .list ≤ largestNumber) × (answer .line ≤ largestNumber) × (answer .place ≤ largestNumber)
   told-printable = files-printable file name first second before long answer tells
 
-  pub text-refused : answer .number ≢ 0 → comparedText file name first second ≡ refusedText (answer .number) (answer .list) (answer .line)
+  pub text-refused : answer .number ≢ 0 → comparedText file name first second ≡ refusedText (answer .number) (answer .list) (answer .line) (answer .place)
   unfolding comparedText
-  text-refused n = numbers-refused (answer .number) (answer .list) (answer .line) (refusalOf file name first second) tells (acceptedText r first second) n
+  text-refused n = numbers-refused (answer .number) (answer .list) (answer .line) (answer .place) (refusalOf file name first second) tells (acceptedText r first second) n
 
   module _ (zero : answer .number ≡ 0) where
     z : refusalOf file name first second .number ≡ 0
@@ -68,4 +68,4 @@ module _ (file name first second : List ℕ) (answer : AllMarked) (plan : List C
     text-accepted =
         accepted-text r name first second (accept .0) (accept .1) (take (answer .clusters) plan) marks (drop (0 + length (allMarks r (clustersOf r first second))) before) (answer .score)
         taken (wrote ∙ files-marks file name first second before long z) score-is
-        ∙ sym (numbers-text (answer .number) (answer .list) (answer .line) (refusalOf file name first second) tells (acceptedText r first second) zero)
+        ∙ sym (numbers-text (answer .number) (answer .list) (answer .line) (answer .place) (refusalOf file name first second) tells (acceptedText r first second) zero)

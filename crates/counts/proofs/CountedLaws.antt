@@ -47,12 +47,12 @@ module _ (file name first second : List ℕ) (answer : AllMarked) (before marks 
   tells : Tells answer (refusalOf file name first second)
   tells = rw answered (files-tell file name first second before long)
 
-  pub told-printable : (answer .number ≤ largestNumber) × (answer .list ≤ largestNumber) × (answer .line ≤ largestNumber)
+  pub told-printable : (answer .number ≤ largestNumber) × (answer .list ≤ largestNumber) × (answer .line ≤ largestNumber) × (answer .place ≤ largestNumber)
   told-printable = files-printable file name first second before long answer tells
 
-  pub text-refused : answer .number ≢ 0 → countedText file name first second ≡ refusedText (answer .number) (answer .list) (answer .line)
+  pub text-refused : answer .number ≢ 0 → countedText file name first second ≡ refusedText (answer .number) (answer .list) (answer .line) (answer .place)
   unfolding countedText
-  text-refused n = numbers-refused (answer .number) (answer .list) (answer .line) (refusalOf file name first second) tells (countsLine (countsFor r first second)) n
+  text-refused n = numbers-refused (answer .number) (answer .list) (answer .line) (answer .place) (refusalOf file name first second) tells (countsLine (countsFor r first second)) n
 
   module _ (zero : answer .number ≡ 0) where
     z : refusalOf file name first second .number ≡ 0
@@ -73,7 +73,7 @@ module _ (file name first second : List ℕ) (answer : AllMarked) (before marks 
         let accept = accepted-files file name first second z in
         let same = counts-marks (mergedItems first second) own (drop (0 + length own) before) (omega (arith, marks-all r name first second (accept .0) (accept .1))) in
         ap countsLine (e ∙ ap (countsOf (mergedItems first second)) (wrote ∙ files-marks file name first second before long z) ∙ same)
-        ∙ sym (numbers-text (answer .number) (answer .list) (answer .line) (refusalOf file name first second) tells (countsLine (countsFor r first second)) zero)
+        ∙ sym (numbers-text (answer .number) (answer .list) (answer .line) (answer .place) (refusalOf file name first second) tells (countsLine (countsFor r first second)) zero)
 
 module _ (reference name first second : List ℕ) (plan : List Cluster) (marks : List ℕ) (z : allRefusal reference name first second (length plan) (length marks) .number ≡ 0) where
   -- the marks of all clusters, and the bytes that hold them
@@ -83,7 +83,7 @@ module _ (reference name first second : List ℕ) (plan : List Cluster) (marks :
   abbrev bytes : List ℕ
   bytes = allBytes reference name first second plan marks
 
-  pub counted-call : counted reference name first second (allBytes reference name first second plan marks) ≡ countedOf (answer 0 0 0 0) (countsFor reference first second)
+  pub counted-call : counted reference name first second (allBytes reference name first second plan marks) ≡ countedOf (answer 0 0 0 0 0) (countsFor reference first second)
   counted-call =
       let zero = count-marked reference name first second plan marks z .0 in
       let small = ltb (length bytes) leastRoom in
@@ -91,6 +91,6 @@ module _ (reference name first second : List ℕ) (plan : List Cluster) (marks :
       let read = lists-read reference name first (smallRoom? (length plan) (length marks)) second z in
       count-given reference name first second bytes zero
       ∙ ap (λ (r : Refusal). countedOf (refusedAnswer r) (countsOf (mergedItems first second) bytes)) none
-      ∙ ap (λ (ms : List ℕ). countedOf (answer 0 0 0 0) (countsOf (mergedItems first second) ms)) (all-given reference name first second plan marks z .2)
-      ∙ ap (countedOf (answer 0 0 0 0))
+      ∙ ap (λ (ms : List ℕ). countedOf (answer 0 0 0 0 0) (countsOf (mergedItems first second) ms)) (all-given reference name first second plan marks z .2)
+      ∙ ap (countedOf (answer 0 0 0 0 0))
       (counts-marks (mergedItems first second) these (drop (0 + length these) marks) (omega (arith, marks-all reference name first second (read .0 .accepted) (read .1))))

@@ -6,11 +6,11 @@ use mathlib.Core.Path.{_≡_, refl}
 use Prim.Native.Nat.{ℕ}
 use Prim.Native.String.{String}
 use lib.ListN.{replicate}
+use Rattle.bases.specs.First.{firstTold}
 use Rattle.bases.specs.Letter.{among?, letterOf, allLetters?}
 use Rattle.bases.specs.Period.{anyPeriod?}
 use Rattle.bases.specs.Same.{agree?}
 use Rattle.card.specs.Examples.{ascii, text, hom, snp}
-use Rattle.card.specs.Refusal.{firstRefusal}
 use Rattle.marks.specs.Counts.{howMany, ownMarks}
 use Rattle.clusters.specs.Merged.{weave, merged}
 use Rattle.clusters.specs.Plan.{rest, plan, recordsFrom}
@@ -24,7 +24,6 @@ use Rattle.matching.specs.BestOf.{every?, allowed?, bestOf}
 use Rattle.matching.specs.Cut.{join}
 use Rattle.matching.specs.Search.{first?, better, bestOver, search}
 use Rattle.written.specs.Written.{digitsOf}
-use Rattle.fields.specs.Allele.{altsWrong?}
 use Rattle.fields.specs.Bytes.{until}
 use Rattle.vcf.specs.Entry.{headerBytes, entriesFrom}
 use Rattle.fields.specs.Field.{skip, full?}
@@ -32,7 +31,6 @@ use Rattle.fields.specs.Genotype.{copiesWrong?}
 use Rattle.fields.specs.Header.{headerWrong?}
 use Rattle.vcf.specs.List.{linesOf, judgeLines, judgeText}
 use Rattle.fields.specs.Pos.{allDigits?, valueFrom, isPos?}
-use Rattle.records.specs.Row.{firstRow}
 use Rattle.counts.specs.Counted.{countedText}
 
 -- What is printed for three files, and what it should be.
@@ -42,7 +40,8 @@ Prints file first second printed = countedText (ascii file) chromName first seco
 pub examples :
     Prints "TGCCGT\n" (text (hom "2" "GCCG" "CCGA" ∷ [])) (text (hom "1" "TG" "T" ∷ hom "5" "G" "GA" ∷ [])) "1\t0\t0\t2\t0\t0\n"
     × Prints "GAC\n" (text (replicate 7 snp)) (text (replicate 6 snp)) "0\t0\t7\t0\t0\t6\n"
-    × Prints "" [] [] "refused\t1\t0\t0\n"
-unfolding among? letterOf allLetters? anyPeriod? agree? altsWrong? allDigits? valueFrom isPos? copiesWrong? skip full? linesOf judgeLines judgeText until headerWrong? firstRow headerBytes entriesFrom
-    digitsOf chain? edits donorFrom over first? better bestOver search score join every? allowed? bestOf weave merged rest plan recordsFrom firstRefusal howMany ownMarks countedText
-examples = (refl, refl, refl)
+    × Prints "" [] [] "refused\t1\t0\t0\t0\n"
+    × Prints "TGCCGT\n" (text (hom "2" "G" "C,C" ∷ [])) [] "refused\t23\t1\t3\t13\n"
+unfolding among? letterOf allLetters? anyPeriod? agree? allDigits? valueFrom isPos? copiesWrong? skip full? linesOf judgeLines judgeText until headerWrong? firstTold headerBytes entriesFrom
+    digitsOf chain? edits donorFrom over first? better bestOver search score join every? allowed? bestOf weave merged rest plan recordsFrom howMany ownMarks countedText
+examples = (refl, refl, refl, refl)

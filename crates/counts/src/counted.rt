@@ -56,6 +56,7 @@ fn count_text(file: &[u8], name: &[u8], first: &[u8], second: &[u8], out: &mut [
             answer.number as usize,
             answer.list as usize,
             answer.line as usize,
+            answer.place as usize,
             out,
         );
     }

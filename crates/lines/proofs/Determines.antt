@@ -28,5 +28,5 @@ put-fields-leaves κs a z z′ e e′ p q = p .1 ∙ sym (q .1)
 pub refused-text-determines : OneResult 1 refused-text-kinds.ps refused-text-kinds.r refused-text.Post
 refused-text-determines κs a z z′ e e′ p q = p .0 ∙ sym (q .0)
 
-pub refused-text-leaves : OneLeft 1 refused-text-kinds.ps refused-text-kinds.r refused-text.Post (List ℕ) (λ κs e. now (e .1 .1 .1 .0))
+pub refused-text-leaves : OneLeft 1 refused-text-kinds.ps refused-text-kinds.r refused-text.Post (List ℕ) (λ κs e. now (e .1 .1 .1 .1 .0))
 refused-text-leaves κs a z z′ e e′ p q = p .1 ∙ sym (q .1)

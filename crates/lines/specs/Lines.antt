@@ -1,5 +1,5 @@
 -- Numbers and the line of a refusal, as the programs print them. Document 01: fields are TAB-separated; on refusal the only line is
--- `refused`, number, list, line.
+-- `refused`, number, list, line, and by request a the place in the line.
 -- Assumes nothing: these are definitions.
 use mathlib.Core.List.{List, [], _∷_, _++_}
 use Prim.Native.Nat.{ℕ, _+_, _*_}
@@ -34,8 +34,8 @@ abbrev pub refusedWord : List ℕ
 refusedWord = 114 ∷ 101 ∷ 102 ∷ 117 ∷ 115 ∷ 101 ∷ 100 ∷ 9 ∷ []
 
 -- The text for a refusal: its one line.
-abbrev pub refusedText : ℕ → ℕ → ℕ → List ℕ
-refusedText n list line = refusedWord ++ fields n list line LF
+abbrev pub refusedText : ℕ → ℕ → ℕ → ℕ → List ℕ
+refusedText n list line place = refusedWord ++ fields n list line TAB ++ field place LF
 
 -- The most bytes that a field, three fields and the text for a refusal have.
 abbrev pub fieldMost : ℕ
@@ -45,4 +45,4 @@ abbrev pub fieldsMost : ℕ
 fieldsMost = 3 * fieldMost
 
 abbrev pub refusedMost : ℕ
-refusedMost = length refusedWord + fieldsMost
+refusedMost = length refusedWord + fieldsMost + fieldMost

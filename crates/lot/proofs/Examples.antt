@@ -18,6 +18,7 @@ pub two-runs : lotOf (run 2 1 1 2 1 0 ∷ run 3 1 0 3 0 0 ∷ []) ≡ record {
   number = 0;
   list = 0;
   line = 0;
+  place = 0;
   total = run 5 2 1 5 1 0;
   truth = 8;
   called = 6;
@@ -32,6 +33,7 @@ pub all-undecided : lotOf (run 0 0 512 0 0 9 ∷ []) ≡ record {
   number = 0;
   list = 0;
   line = 0;
+  place = 0;
   total = run 0 0 512 0 0 9;
   truth = 512;
   called = 9;
@@ -46,6 +48,7 @@ pub largest : lotOf (replicate 256 (run 512 0 0 0 512 0)) ≡ record {
   number = 0;
   list = 0;
   line = 0;
+  place = 0;
   total = run 131072 0 0 0 131072 0;
   truth = 131072;
   called = 131072;

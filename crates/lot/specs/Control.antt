@@ -52,4 +52,4 @@ joinedMarks (c ∷ cs) = marksIn c ++ joinedMarks cs
 
 -- Six counts as a run's: those of an answer.
 abbrev pub runWith : Counts → Run
-runWith c = runOf (countedOf (answer 0 0 0 0) c)
+runWith c = runOf (countedOf (answer 0 0 0 0 0) c)

@@ -16,12 +16,13 @@ use Rattle.lot.specs.Share.{share, shareOf}
 abbrev pub rowOf : ℕ → Bool → ℕ
 rowOf n large = pick (eqb n 0 || ltb mostRuns n) 30 (pick large 31 0)
 
--- Refused: the number, list 0, line 0, and zeros.
+-- Refused: the number, list 0, line 0, place 0, and zeros.
 abbrev pub refusedLot : ℕ → Lot
 refusedLot number = record {
   number = number;
   list = 0;
   line = 0;
+  place = 0;
   total = noRun;
   truth = 0;
   called = 0;
@@ -35,6 +36,7 @@ givenLot t = record {
   number = 0;
   list = 0;
   line = 0;
+  place = 0;
   total = t;
   truth = truthOf t;
   called = calledOf t;

@@ -9,12 +9,13 @@ use crate::share::share_of;
 use crate::sum::Sum;
 use crate::sum::no_sum;
 
-// Where it is refused: the number, list and line of the refusal, and zeros. Else number, list and line 0, the totals of the six counts, the
+// Where it is refused: the number, list, line and place of the refusal, and zeros. Else these four are 0, the totals of the six counts, the
 // entries of the truth and of what was called, and recall and precision.
 pub struct Lot {
     pub number: u32,
     pub list: u32,
     pub line: u32,
+    pub place: u32,
     pub total: Run,
     pub truth: u32,
     pub called: u32,
@@ -56,6 +57,7 @@ fn refuse(number: u32) -> Lot
         number,
         list: 0,
         line: 0,
+        place: 0,
         total,
         truth: 0,
         called: 0,
@@ -79,6 +81,7 @@ fn give(total: Run) -> Lot
         number: 0,
         list: 0,
         line: 0,
+        place: 0,
         total,
         truth,
         called,

@@ -20,6 +20,7 @@ use Rattle.lot.proofs.RefusalLaws.{number-of}
 use Rattle.lot.proofs.SumLaws.{first-given}
 use Rattle.lot.specs.declared.run.Run.{Run}
 use Rattle.lot.specs.declared.share.Share.{Share}
+use Rattle.lot.specs.declared.answer.Lot.{Lot}
 use Rattle.lot.specs.Lot.{lotRow, refusedLot, givenLot, lotOf, lotOfFirst}
 use Rattle.lot.specs.Run.{mostRuns, large?, anyLarge?, totalOf}
 use Rattle.lot_report.specs.Printable.{PrintableShare, Printable}
@@ -70,15 +71,18 @@ module _ (rs : List Run) (e : lotOf rs .number ≡ 0) where
         precision = share-printable (lotOf rs .precision) (f .precision e);
       }
 
-pub lot-told : (rs : List Run) → (lotOf rs .number ≤ 31) × (lotOf rs .list ≡ 0) × (lotOf rs .line ≡ 0)
+pub lot-told : (rs : List Run) → (lotOf rs .number ≤ 31) × (lotOf rs .list ≡ 0) × (lotOf rs .line ≡ 0) × (lotOf rs .place ≡ 0)
 unfolding lotOf
-lot-told rs = (omega (arith, lot-row rs, few (eqb (length rs) 0 || ltb mostRuns (length rs)) (anyLarge? rs)), go (eqb (lotRow rs) 0) .0, go (eqb (lotRow rs) 0) .1)
+lot-told rs = (omega (arith, lot-row rs, few (eqb (length rs) 0 || ltb mostRuns (length rs)) (anyLarge? rs)), go (eqb (lotRow rs) 0) .0, go (eqb (lotRow rs) 0) .1, go (eqb (lotRow rs) 0) .2)
   where
     few : (t u : Bool) → pick t 30 (pick u 31 0) ≤ 31
     few true u = omega arith
     few false true = omega arith
     few false false = omega arith
 
-    go : (t : Bool) → (pick t (givenLot (totalOf rs)) (refusedLot (lotRow rs)) .list ≡ 0) × (pick t (givenLot (totalOf rs)) (refusedLot (lotRow rs)) .line ≡ 0)
-    go true = (refl, refl)
-    go false = (refl, refl)
+    told : Bool → Lot
+    told t = pick t (givenLot (totalOf rs)) (refusedLot (lotRow rs))
+
+    go : (t : Bool) → (told t .list ≡ 0) × (told t .line ≡ 0) × (told t .place ≡ 0)
+    go true = (refl, refl, refl)
+    go false = (refl, refl, refl)

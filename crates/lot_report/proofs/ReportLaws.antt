@@ -44,7 +44,7 @@ right-text t h e =
     rw (le-ltb longestText (length t) h, l)
 
 module _ (ls : List (List ℕ)) where
-  pub runs-refused : (lotOf (runsOn ls) .number ≡ 0 → ⊥) → runsReport ls ≡ refusedText (lotOf (runsOn ls) .number) (lotOf (runsOn ls) .list) (lotOf (runsOn ls) .line)
+  pub runs-refused : (lotOf (runsOn ls) .number ≡ 0 → ⊥) → runsReport ls ≡ refusedText (lotOf (runsOn ls) .number) (lotOf (runsOn ls) .list) (lotOf (runsOn ls) .line) (lotOf (runsOn ls) .place)
   unfolding runsReport
   runs-refused h = rw (ne-eqb (lotOf (runsOn ls) .number) 0 h)
 
@@ -53,15 +53,15 @@ module _ (ls : List (List ℕ)) where
   runs-table e = rw (eq-eqb (lotOf (runsOn ls) .number) 0 e)
 
 module _ (t : List ℕ) where
-  pub report-wrong : textWrong? t ≡ true → reportText t ≡ refusedText 3 0 0
+  pub report-wrong : textWrong? t ≡ true → reportText t ≡ refusedText 3 0 0 0
   unfolding reportText
   report-wrong e = rw e
 
-  pub report-unheaded : textWrong? t ≡ false → headed? t ≡ false → reportText t ≡ refusedText 5 0 1
+  pub report-unheaded : textWrong? t ≡ false → headed? t ≡ false → reportText t ≡ refusedText 5 0 1 0
   unfolding reportText
   report-unheaded e h = rw (e, h)
 
-  pub report-bad : textWrong? t ≡ false → headed? t ≡ true → (badLine 2 (runLines t) ≡ 0 → ⊥) → reportText t ≡ refusedText 6 0 (badLine 2 (runLines t))
+  pub report-bad : textWrong? t ≡ false → headed? t ≡ true → (badLine 2 (runLines t) ≡ 0 → ⊥) → reportText t ≡ refusedText 6 0 (badLine 2 (runLines t)) 0
   unfolding reportText
   report-bad e h k = rw (e, h, ne-eqb (badLine 2 (runLines t)) 0 k)
 

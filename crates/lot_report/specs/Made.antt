@@ -56,5 +56,5 @@ unfoldable pub namedReport : List Named → List ℕ
 namedReport ns =
     let l = lotOf (runsNamed ns) in
     let table = heading ++ namedText ns ++ lineText lotName l in
-    let refused = refusedText (l .number) (l .list) (l .line) in
+    let refused = refusedText (l .number) (l .list) (l .line) (l .place) in
     pick (eqb (l .number) 0) table refused

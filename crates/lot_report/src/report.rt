@@ -39,6 +39,7 @@ fn report_runs(text: &[u8], from: usize, out: &mut [u8]) -> usize
             lot.number as usize,
             lot.list as usize,
             lot.line as usize,
+            lot.place as usize,
             out,
         );
     }
@@ -55,18 +56,18 @@ pub fn report_text(text: &[u8], out: &mut [u8]) -> usize
         ⌝ }
 {
     if LONGEST_TEXT < text.len() {
-        return refused_text(3, 0, 0, out);
+        return refused_text(3, 0, 0, 0, out);
     }
     if !ends_in_lf(text) {
-        return refused_text(3, 0, 0, out);
+        return refused_text(3, 0, 0, 0, out);
     }
     if !is_headed(text) {
-        return refused_text(5, 0, 1, out);
+        return refused_text(5, 0, 1, 0, out);
     }
     let from = next_line(text, 0);
     let bad = bad_line(text, from);
     if bad != 0 {
-        return refused_text(6, 0, bad, out);
+        return refused_text(6, 0, bad, 0, out);
     }
     report_runs(text, from, out)
 }

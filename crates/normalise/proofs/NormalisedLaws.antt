@@ -1,6 +1,6 @@
 -- Laws of what normalise prints.
 --     normalised-open                         the reference file does not end in LF
---     answer-printable, text-refused          else, where the call `normal` is refused: its three numbers can be printed, and they are what is printed
+--     answer-printable, text-refused          else, where the call `normal` is refused: its four numbers can be printed, and they are what is printed
 --     text-given                              else what it wrote is
 -- Assumes nothing.
 use mathlib.Core.Bool.{Bool, true, false}
@@ -23,10 +23,10 @@ use Rattle.files.specs.File.{endsInLf?, basesOfFile}
 use Rattle.lines.specs.Lines.{largestNumber, refusedText}
 use Rattle.written.specs.Written.{writtenText}
 use Rattle.told.proofs.PrintableLaws.{list-printable}
-use Rattle.told.proofs.ToldLaws.{file-open, file-past, told-text, Numbers, numbers-printable, numbers-refused}
+use Rattle.told.proofs.ToldLaws.{file-open, file-past, told-text, Numbers, numbers-printable, numbers-refused, answer-numbers}
 use Rattle.normalise.specs.Normalised.{listRefusal, normalisedText}
 
-pub normalised-open : (file name text : List ℕ) → endsInLf? file ≡ false → normalisedText file name text ≡ refusedText 1 0 0
+pub normalised-open : (file name text : List ℕ) → endsInLf? file ≡ false → normalisedText file name text ≡ refusedText 1 0 0 0
 unfolding normalisedText
 normalised-open file name text e = rw (file-open file (listChecks (basesOfFile file) name text false) e)
 
@@ -34,7 +34,7 @@ normalised-open file name text e = rw (file-open file (listChecks (basesOfFile f
 answer-number : (r : Refusal) (v : ℕ) → answerOf r v .number ≡ r .number
 answer-number r v = go (eqb (r .number) 0) refl
   where
-    go : (t : Bool) → eqb (r .number) 0 ≡ t → pick t (answer 0 0 0 v) (refusedAnswer r) .number ≡ r .number
+    go : (t : Bool) → eqb (r .number) 0 ≡ t → pick t (answer 0 0 0 0 v) (refusedAnswer r) .number ≡ r .number
     go true e = sym (eqb-true (r .number) 0 e)
     go false e = refl
 
@@ -57,21 +57,15 @@ module _ (file name text out : List ℕ) (ends : endsInLf? file ≡ true) (roomy
     refused : (written reference name text (length out) ≡ refusedAnswer r) × (normalAfter reference name text out ≡ out)
     refused = normal-refused reference name text out (rw number-same at n)
 
-    tells : Numbers (a .number) (a .list) (a .line) (listRefusal file name text)
-    tells =
-        let e = answered ∙ refused .0 in
-        record {
-          same-number = ap (λ (x : Answer). x .number) e ∙ ap (λ (x : Refusal). x .number) same;
-          same-list = ap (λ (x : Answer). x .list) e ∙ ap (λ (x : Refusal). x .list) same;
-          same-line = ap (λ (x : Answer). x .line) e ∙ ap (λ (x : Refusal). x .line) same;
-        }
+    tells : Numbers (a .number) (a .list) (a .line) (a .place) (listRefusal file name text)
+    tells = answer-numbers a (listRefusal file name text) (answered ∙ refused .0 ∙ ap refusedAnswer same)
 
-    pub answer-printable : (a .number ≤ largestNumber) × (a .list ≤ largestNumber) × (a .line ≤ largestNumber)
-    answer-printable = numbers-printable (a .number) (a .list) (a .line) (listRefusal file name text) tells (list-printable file reference name text false)
+    pub answer-printable : (a .number ≤ largestNumber) × (a .list ≤ largestNumber) × (a .line ≤ largestNumber) × (a .place ≤ largestNumber)
+    answer-printable = numbers-printable (a .number) (a .list) (a .line) (a .place) (listRefusal file name text) tells (list-printable file reference name text false)
 
-    pub text-refused : (normalisedText file name text ≡ refusedText (a .number) (a .list) (a .line)) × (normalAfter (basesOfFile file) name text out ≡ out)
+    pub text-refused : (normalisedText file name text ≡ refusedText (a .number) (a .list) (a .line) (a .place)) × (normalAfter (basesOfFile file) name text out ≡ out)
     unfolding normalisedText
-    text-refused = (numbers-refused (a .number) (a .list) (a .line) (listRefusal file name text) tells (writtenText reference text) n, refused .1)
+    text-refused = (numbers-refused (a .number) (a .list) (a .line) (a .place) (listRefusal file name text) tells (writtenText reference text) n, refused .1)
 
   pub text-given : a .number ≡ 0
       → (a .value ≡ length (normalisedText file name text)) × (normalAfter (basesOfFile file) name text out ≡ put out 0 (normalisedText file name text))

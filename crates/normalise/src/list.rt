@@ -25,7 +25,7 @@ fn normalise_text(file: &[u8], name: &[u8], text: &[u8], out: &mut [u8]) -> usiz
         ⌝ }
 {
     if !ends_in_lf(file) {
-        return refused_text(1, 0, 0, out);
+        return refused_text(1, 0, 0, 0, out);
     }
     let n = file.len() - 1;
     let answer = normal(&file[..n], name, text, out);
@@ -34,6 +34,7 @@ fn normalise_text(file: &[u8], name: &[u8], text: &[u8], out: &mut [u8]) -> usiz
             answer.number as usize,
             answer.list as usize,
             answer.line as usize,
+            answer.place as usize,
             out,
         );
     }

@@ -1,6 +1,6 @@
 -- What marking a run's files answers and leaves.
 --     open-files, closed-files          by whether the reference file ends in LF
---     Tells, files-tell                 the answer's three numbers are the refusal's
+--     Tells, files-tell                 the answer's four numbers are the refusal's
 --     files-printable                   they can be printed
 --     accepted-files, files-answerable  where they are zeros, both lists are accepted, and walks over them can begin
 --     files-clusters, files-score, files-plan, files-marks
@@ -36,14 +36,14 @@ use Rattle.lines.specs.Lines.{largestNumber}
 use Rattle.vcf.specs.List.{judgeText}
 use Rattle.told.specs.Files.{refusalOf, filesAnswered, filesPlan, filesMarks}
 use Rattle.told.proofs.PrintableLaws.{lists-printable}
-use Rattle.told.proofs.ToldLaws.{file-open, file-past, file-ends, Numbers, numbers-printable}
+use Rattle.told.proofs.ToldLaws.{file-open, file-past, file-ends, Numbers, numbers-printable, answer-numbers}
 
 empty-long : length emptyPlan ≡ leastRoom
 empty-long = length-replicate {A = Cluster} leastRoom (record { first = 0; count = 0 })
 
 module _ (file name first second marks : List ℕ) where
   pub open-files : endsInLf? file ≡ false
-      → (filesAnswered file name first second marks ≡ allMarked (answer 1 0 0 0) 0 0) × (filesPlan file name first second marks ≡ emptyPlan) × (filesMarks file name first second marks ≡ marks)
+      → (filesAnswered file name first second marks ≡ allMarked (answer 1 0 0 0 0) 0 0) × (filesPlan file name first second marks ≡ emptyPlan) × (filesMarks file name first second marks ≡ marks)
   open-files e = (rw e, rw e, rw e)
 
   pub closed-files : endsInLf? file ≡ true
@@ -52,9 +52,9 @@ module _ (file name first second marks : List ℕ) where
       × (filesMarks file name first second marks ≡ allBytes (basesOfFile file) name first second emptyPlan marks)
   closed-files e = (rw e, rw e, rw e)
 
--- The three numbers of an answer are those of a refusal.
+-- The four numbers of an answer are those of a refusal.
 abbrev pub Tells : AllMarked → Refusal → Type 0
-Tells a r = Numbers (a .number) (a .list) (a .line) r
+Tells a r = Numbers (a .number) (a .list) (a .line) (a .place) r
 
 module _ (file name first second : List ℕ) (z : refusalOf file name first second .number ≡ 0) where
   -- the refusal of the call on the bases of the file
@@ -80,10 +80,10 @@ module _ (file name first second before : List ℕ) (long : length before ≡ le
   same : endsInLf? file ≡ true → called ≡ refusalOf file name first second
   same e = rw long (sym (file-past file (listsChecks r name first second false) e))
 
-  -- the answer's three numbers, whether it is a refusal or not
-  three : (t : Bool) (a : Answer) (n s : ℕ) (q : Refusal) → a ≡ refusedAnswer q → Tells (pick t (allMarked a n s) (allMarked a 0 0)) q
-  three true a n s q e = record { same-number = ap (λ (x : Answer). x .number) e; same-list = ap (λ (x : Answer). x .list) e; same-line = ap (λ (x : Answer). x .line) e }
-  three false a n s q e = record { same-number = ap (λ (x : Answer). x .number) e; same-list = ap (λ (x : Answer). x .list) e; same-line = ap (λ (x : Answer). x .line) e }
+  -- the answer's four numbers, whether it is a refusal or not
+  four : (t : Bool) (a : Answer) (n s : ℕ) (q : Refusal) → a ≡ refusedAnswer q → Tells (pick t (allMarked a n s) (allMarked a 0 0)) q
+  four true a n s q e = answer-numbers a q e
+  four false a n s q e = answer-numbers a q e
 
   pub files-tell : Tells (filesAnswered file name first second before) (refusalOf file name first second)
   files-tell = by-end (endsInLf? file) refl
@@ -91,14 +91,14 @@ module _ (file name first second before : List ℕ) (long : length before ≡ le
       by-end : (t : Bool) → endsInLf? file ≡ t → Tells (filesAnswered file name first second before) (refusalOf file name first second)
       by-end true e =
           rw (closed-files file name first second before e .0)
-          (three (eqb (called .number) 0) (refusedAnswer called) (length (planOf r first second)) (totalScore r (clustersOf r first second)) (refusalOf file name first second)
+          (four (eqb (called .number) 0) (refusedAnswer called) (length (planOf r first second)) (totalScore r (clustersOf r first second)) (refusalOf file name first second)
           (ap refusedAnswer (same e)))
       by-end false e =
           let q = file-open file (listsChecks r name first second false) e in
-          rw (open-files file name first second before e .0, q) (record { same-number = refl; same-list = refl; same-line = refl })
+          rw (open-files file name first second before e .0, q) (record { same-number = refl; same-list = refl; same-line = refl; same-place = refl })
 
-  pub files-printable : (a : AllMarked) → Tells a (refusalOf file name first second) → (a .number ≤ largestNumber) × (a .list ≤ largestNumber) × (a .line ≤ largestNumber)
-  files-printable a t = numbers-printable (a .number) (a .list) (a .line) (refusalOf file name first second) t (lists-printable file r name first false second)
+  pub files-printable : (a : AllMarked) → Tells a (refusalOf file name first second) → (a .number ≤ largestNumber) × (a .list ≤ largestNumber) × (a .line ≤ largestNumber) × (a .place ≤ largestNumber)
+  files-printable a t = numbers-printable (a .number) (a .list) (a .line) (a .place) (refusalOf file name first second) t (lists-printable file r name first false second)
 
   module _ (z : refusalOf file name first second .number ≡ 0) where
     ends : endsInLf? file ≡ true

@@ -25,7 +25,7 @@ module _ (file name first second marks : List ℕ) where
   filesAnswered =
       pick (endsInLf? file)
       (allAnswered (basesOfFile file) name first second leastRoom (length marks))
-      (allMarked (answer 1 0 0 0) 0 0)
+      (allMarked (answer 1 0 0 0 0) 0 0)
 
   -- The plan that is written, or none.
   abbrev pub filesPlan : List Cluster

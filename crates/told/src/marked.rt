@@ -28,6 +28,7 @@ pub fn mark_files(
             number: 1,
             list: 0,
             line: 0,
+            place: 0,
             clusters: 0,
             score: 0,
         };

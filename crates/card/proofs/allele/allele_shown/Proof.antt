@@ -6,6 +6,7 @@ use borrow.Author.Needs.{needs}
 use borrow.Author.Tests.{not-true, not-false}
 use Rattle.vcf.specs.declared.list.Fault.{Fault}
 use Rattle.vcf.proofs.AcceptedLaws.{readable-records, accepted-from}
+use Rattle.vcf.proofs.GivenLaws.{judge-place-fits}
 use Rattle.vcf.proofs.JudgeLaws.{judge-line-fits}
 use Rattle.card.proofs.ShownLaws.{shown-no-reference, shown-fault, shown-no-entry, shown-no-allele, shown-entry, entry-pos}
 use Rattle.card.proofs.allele.allele_shown.Statement.{statement}
@@ -37,18 +38,27 @@ cast-refused c =
     let e = ap (λ (f : Fault). f .line) (c .before .before .judge .ensures) in
     omega (arith, judge-line-fits r name t)
 
+cast-refused-2 : tie.Need-cast-refused-2
+cast-refused-2 c =
+    let r = c .before .before .before .before .before .before .before .before .before .args .reference .now in
+    let name = c .before .before .before .before .before .before .before .before .before .args .name .now in
+    let t = c .before .before .before .before .before .before .before .before .before .args .text .now in
+    let e = ap (λ (f : Fault). f .place) (c .before .before .before .judge .ensures) in
+    omega (arith, judge-place-fits r name t)
+
 refused-requires-2 : tie.Need-refused-requires-2
 refused-requires-2 c κs = search needs
 
 returns-2 : tie.Need-returns-2
 returns-2 c =
-    let r = c .before .before .before .before .before .before .before .before .before .args .reference .now in
-    let name = c .before .before .before .before .before .before .before .before .before .args .name .now in
-    let t = c .before .before .before .before .before .before .before .before .before .args .text .now in
-    let i = c .before .before .before .before .before .before .before .before .before .args .entry in
-    let k = c .before .before .before .before .before .before .before .before .before .args .allele in
-    let right = sym (c .before .before .before .before .before .is-reference .ensures) ∙ not-false _ (c .before .before .before .before .if1 .left) in
-    c .refused2 .ensures ∙ sym (shown-fault r name t i k right (c .before .before .before .judge .result) (c .before .before .before .judge .ensures) (c .before .before .if2 .taken))
+    let r = c .before .before .before .before .before .before .before .before .before .before .args .reference .now in
+    let name = c .before .before .before .before .before .before .before .before .before .before .args .name .now in
+    let t = c .before .before .before .before .before .before .before .before .before .before .args .text .now in
+    let i = c .before .before .before .before .before .before .before .before .before .before .args .entry in
+    let k = c .before .before .before .before .before .before .before .before .before .before .args .allele in
+    let right = sym (c .before .before .before .before .before .before .is-reference .ensures) ∙ not-false _ (c .before .before .before .before .before .if1 .left) in
+    let judged = c .before .before .before .before .judge in
+    c .refused2 .ensures ∙ sym (shown-fault r name t i k right (judged .result) (judged .ensures) (c .before .before .before .if2 .taken))
 
 record-at-requires : tie.Need-record-at-requires
 record-at-requires c κs = search needs
@@ -130,6 +140,7 @@ allele-shown-spec =
     returns
     judge-requires
     cast-refused
+    cast-refused-2
     refused-requires-2
     returns-2
     record-at-requires

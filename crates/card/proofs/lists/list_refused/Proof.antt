@@ -4,6 +4,7 @@ use native.Mathlib.Omega.{arith}
 use borrow.Author.Needs.{needs}
 use borrow.Author.Tests.{not-true, not-false}
 use Rattle.vcf.specs.declared.list.Fault.{Fault}
+use Rattle.vcf.proofs.GivenLaws.{judge-place-fits}
 use Rattle.vcf.proofs.JudgeLaws.{judge-line-fits}
 use Rattle.card.specs.Answer.{refusedAnswer}
 use Rattle.card.proofs.ListsLaws.{list-no-reference, list-small, list-fault, list-clear}
@@ -60,20 +61,28 @@ cast-refuse c =
     let e = ap (λ (f : Fault). f .line) (c .before .before .before .judge .ensures) in
     omega (arith, judge-line-fits r name t)
 
+cast-refuse-2 : tie.Need-cast-refuse-2
+cast-refuse-2 c =
+    let r = c .before .before .before .before .before .before .before .before .before .before .before .args .reference .now in
+    let name = c .before .before .before .before .before .before .before .before .before .before .before .args .name .now in
+    let t = c .before .before .before .before .before .before .before .before .before .before .before .args .text .now in
+    let e = ap (λ (f : Fault). f .place) (c .before .before .before .before .judge .ensures) in
+    omega (arith, judge-place-fits r name t)
+
 refuse-requires-4 : tie.Need-refuse-requires-4
 refuse-requires-4 c κs = search needs
 
 returns-4 : tie.Need-returns-4
 returns-4 c =
-    let c8 = c .before .before .before .before .before .before .before .before in
-    let r = c8 .before .before .before .args .reference .now in
-    let name = c8 .before .before .before .args .name .now in
-    let t = c8 .before .before .before .args .text .now in
-    let small = c8 .before .before .before .args .small in
-    let right = sym (c .before .before .before .before .before .before .before .is-reference .ensures) ∙ not-false _ (c .before .before .before .before .before .before .if1 .left) in
+    let c9 = c .before .before .before .before .before .before .before .before .before in
+    let r = c9 .before .before .before .args .reference .now in
+    let name = c9 .before .before .before .args .name .now in
+    let t = c9 .before .before .before .args .text .now in
+    let small = c9 .before .before .before .args .small in
+    let right = sym (c .before .before .before .before .before .before .before .before .is-reference .ensures) ∙ not-false _ (c .before .before .before .before .before .before .before .if1 .left) in
     c .refuse4 .ensures ∙ sym
-    (ap refusedAnswer (list-fault r name t small right (c .before .before .before .before .before .if2 .left) (c .before .before .before .before .judge .result)
-    (c .before .before .before .before .judge .ensures) (c .before .before .if3 .left)))
+    (ap refusedAnswer (list-fault r name t small right (c .before .before .before .before .before .before .if2 .left) (c .before .before .before .before .before .judge .result)
+    (c .before .before .before .before .before .judge .ensures) (c .before .before .before .if3 .left)))
 
 pub list-refused-spec : {M : Type 1} → statement M
 list-refused-spec =
@@ -88,5 +97,6 @@ list-refused-spec =
     refuse-requires-3
     returns-3
     cast-refuse
+    cast-refuse-2
     refuse-requires-4
     returns-4)

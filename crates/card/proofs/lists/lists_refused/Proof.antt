@@ -3,6 +3,7 @@ use mathlib.Core.Path.{sym, ap, _∙_}
 use native.Mathlib.Omega.{arith}
 use borrow.Author.Needs.{needs}
 use Rattle.vcf.specs.declared.list.Fault.{Fault}
+use Rattle.vcf.proofs.GivenLaws.{judge-place-fits}
 use Rattle.vcf.proofs.JudgeLaws.{judge-line-fits}
 use Rattle.card.specs.declared.answer.Answer.{Answer}
 use Rattle.card.specs.Answer.{refusedAnswer}
@@ -48,21 +49,30 @@ cast-refuse c =
     let e = ap (λ (f : Fault). f .line) (c .before .before .before .judge .ensures) in
     omega (arith, judge-line-fits r name second)
 
+cast-refuse-2 : tie.Need-cast-refuse-2
+cast-refuse-2 c =
+    let r = c .before .before .before .before .before .before .before .before .before .before .before .before .args .reference .now in
+    let name = c .before .before .before .before .before .before .before .before .before .before .before .before .args .name .now in
+    let second = c .before .before .before .before .before .before .before .before .before .before .before .before .args .second .now in
+    let e = ap (λ (f : Fault). f .place) (c .before .before .before .before .judge .ensures) in
+    omega (arith, judge-place-fits r name second)
+
 refuse-requires-2 : tie.Need-refuse-requires-2
 refuse-requires-2 c κs = search needs
 
 returns-3 : tie.Need-returns-3
 returns-3 c =
     let c8 = c .before .before .before .before .before .before .before .before in
-    let r = c8 .before .before .before .before .args .reference .now in
-    let name = c8 .before .before .before .before .args .name .now in
-    let first = c8 .before .before .before .before .args .first .now in
-    let second = c8 .before .before .before .before .args .second .now in
-    let small = c8 .before .before .before .before .args .small in
-    let one = sym (ap (λ (a : Answer). a .number) (c .before .before .before .before .before .before .before .list-refused .ensures)) ∙ c .before .before .before .before .before .if1 .left in
+    let c9 = c8 .before in
+    let r = c9 .before .before .before .before .args .reference .now in
+    let name = c9 .before .before .before .before .args .name .now in
+    let first = c9 .before .before .before .before .args .first .now in
+    let second = c9 .before .before .before .before .args .second .now in
+    let small = c9 .before .before .before .before .args .small in
+    let one = sym (ap (λ (a : Answer). a .number) (c8 .list-refused .ensures)) ∙ c .before .before .before .before .before .before .if1 .left in
     c .refuse2 .ensures ∙ sym
-    (ap refusedAnswer (lists-fault r name first small second one (c .before .before .before .before .judge .result) (c .before .before .before .before .judge .ensures)
-    (c .before .before .if2 .left)))
+    (ap refusedAnswer (lists-fault r name first small second one (c .before .before .before .before .before .judge .result) (c .before .before .before .before .before .judge .ensures)
+    (c .before .before .before .if2 .left)))
 
 pub lists-refused-spec : {M : Type 1} → statement M
 lists-refused-spec =
@@ -74,5 +84,6 @@ lists-refused-spec =
     refuse-requires
     returns-2
     cast-refuse
+    cast-refuse-2
     refuse-requires-2
     returns-3)

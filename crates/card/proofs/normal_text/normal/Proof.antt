@@ -81,7 +81,7 @@ returns-2 c =
     let z = sym (ap (λ (x : Answer). x .number) (c .before .before .before .before .before .before .before .list-refused .ensures)) ∙ c .before .before .before .before .before .if1 .left in
     let read = list-read r name t (ltb (length d) (length t)) z in
     let p = normal-given r name t d z in
-    (c .give .ensures ∙ ap (answer 0 0 0) (c .before .before .before .write-list .ensures .0) ∙ sym (p .0), c .before .before .before .write-list .ensures .1 ∙ sym (p .1))
+    (c .give .ensures ∙ ap (answer 0 0 0 0) (c .before .before .before .write-list .ensures .0) ∙ sym (p .0), c .before .before .before .write-list .ensures .1 ∙ sym (p .1))
 
 pub normal-spec : {M : Type 1} → statement M
 normal-spec =

@@ -25,28 +25,31 @@ cast-refused-text-2 c = search needs
 cast-refused-text-3 : tie.Need-cast-refused-text-3
 cast-refused-text-3 c = search needs
 
+cast-refused-text-4 : tie.Need-cast-refused-text-4
+cast-refused-text-4 c = search needs
+
 refused-text-requires : tie.Need-refused-text-requires
 refused-text-requires c κs =
-    let a = c .before .before .before .before .before .before .before .before .before .before .before .before .before .before .before .args in
-    let told = c .before .before .before .before .before .before .before .before .mark-files in
+    let a = c .before .before .before .before .before .before .before .before .before .before .before .before .before .before .before .before .args in
+    let told = c .before .before .before .before .before .before .before .before .before .mark-files in
     let m = told .result in
     let e = told .ensures in
     let p = told-printable (a .file .now) (a .name .now) (a .first .now) (a .second .now) (m .answer) (m .plan) (replicate leastRoom 0) _ (length-replicate {A = ℕ} leastRoom 0) (e .0) (e .1) (e .2) in
-    (p .0, p .1, p .2, omega (arith, c .before .before .before .before .before .before .before .before .before .before .before .before .before .before .before .pre))
+    (p .0, p .1, p .2, p .3, omega (arith, c .before .before .before .before .before .before .before .before .before .before .before .before .before .before .before .before .pre))
 
 same-length : tie.Need-same-length
 same-length c = search needs
 
 returns : tie.Need-returns
 returns c =
-    let c8 = c .before .before .before .before .before .before .before .before in
-    let c16 = c8 .before .before .before .before .before .before .before .before in
-    let a = c16 .before .before .args in
-    let told = c8 .before .before .before .mark-files in
+    let c9 = c .before .before .before .before .before .before .before .before .before in
+    let c17 = c9 .before .before .before .before .before .before .before .before in
+    let a = c17 .before .before .args in
+    let told = c9 .before .before .before .mark-files in
     let m = told .result in
     let e = told .ensures in
     let t = text-refused (a .file .now) (a .name .now) (a .first .now) (a .second .now) (m .answer) (m .plan) (replicate leastRoom 0) _ (length-replicate {A = ℕ} leastRoom 0) (e .0) (e .1) (e .2)
-    (c .before .before .before .before .before .before .before .if1 .taken) in
+    (c .before .before .before .before .before .before .before .before .if1 .taken) in
     let w = c .before .before .refused-text .ensures in
     wrote-text (a .out .now) _ _ _ _ w (sym t)
 
@@ -94,6 +97,7 @@ compare-text-spec =
     cast-refused-text
     cast-refused-text-2
     cast-refused-text-3
+    cast-refused-text-4
     refused-text-requires
     same-length
     returns

@@ -33,7 +33,7 @@ share-of-requires-2 c κs = search needs
 returns : tie.Need-returns
 returns c =
     let t = c .before .before .before .before .before .before .before .before .args .total in
-    ap₂ (λ (recall precision : Share). record { number = 0; list = 0; line = 0; total = t; truth = truthOf t; called = calledOf t; recall = recall; precision = precision })
+    ap₂ (λ (recall precision : Share). record { number = 0; list = 0; line = 0; place = 0; total = t; truth = truthOf t; called = calledOf t; recall = recall; precision = precision })
     (c .before .share-of .ensures) (c .share-of2 .ensures)
 
 pub give-spec : {M : Type 1} → statement M

@@ -11,7 +11,7 @@ no-sum-requires c κs = search needs
 
 returns : tie.Need-returns
 returns c =
-    ap (λ (s : Sum). record { number = c .before .before .args .number; list = 0; line = 0; total = s .total; truth = 0; called = 0; recall = share 0 0 0; precision = share 0 0 0 })
+    ap (λ (s : Sum). record { number = c .before .before .args .number; list = 0; line = 0; place = 0; total = s .total; truth = 0; called = 0; recall = share 0 0 0; precision = share 0 0 0 })
     (c .before .no-sum .ensures)
 
 pub refuse-spec : {M : Type 1} → statement M

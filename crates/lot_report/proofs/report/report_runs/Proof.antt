@@ -32,33 +32,37 @@ cast-refused-text-2 c = search needs
 cast-refused-text-3 : tie.Need-cast-refused-text-3
 cast-refused-text-3 c = search needs
 
+cast-refused-text-4 : tie.Need-cast-refused-text-4
+cast-refused-text-4 c = search needs
+
 refused-text-requires : tie.Need-refused-text-requires
 refused-text-requires c κs =
     let c8 = c .before .before .before .before .before .before .before .before in
-    let s = c8 .before .before .before in
+    let c9 = c8 .before in
+    let s = c9 .before .before .before in
     let a = s .args in
     let t = a .text .now in
     let ls = linesOf (drop (a .from) t) in
-    let lot : c .before .before .before .before .before .before .lot-of-first .result ≡ lotOf (runsOn ls) =
-    lot-made ls (c .before .before .before .before .before .before .lot-of-first .result) (c .before .before .before .before .before .before .before .first-runs .result) (c8 .count-lines .result)
-    (c8 .count-lines .ensures) (c .before .before .before .before .before .before .before .first-runs .ensures) (c .before .before .before .before .before .before .lot-of-first .ensures) in
+    let lot : c .before .before .before .before .before .before .before .lot-of-first .result ≡ lotOf (runsOn ls) =
+    lot-made ls (c .before .before .before .before .before .before .before .lot-of-first .result) (c8 .first-runs .result) (c9 .count-lines .result)
+    (c9 .count-lines .ensures) (c8 .first-runs .ensures) (c .before .before .before .before .before .before .before .lot-of-first .ensures) in
     let told = lot-told (runsOn ls) in
-    rw lot (omega (arith, told .0), omega (arith, told .1), omega (arith, told .2), omega (arith, s .pre .3))
+    rw lot (omega (arith, told .0), omega (arith, told .1), omega (arith, told .2), omega (arith, told .3), omega (arith, s .pre .3))
 
 same-length : tie.Need-same-length
 same-length c = search needs
 
 returns : tie.Need-returns
 returns c =
-    let c8 = c .before .before .before .before .before .before .before .before in
-    let s = c8 .before .before .before .before .before .before in
+    let c9 = c .before .before .before .before .before .before .before .before .before in
+    let s = c9 .before .before .before .before .before .before in
     let a = s .args in
     let t = a .text .now in
     let ls = linesOf (drop (a .from) t) in
-    let lot : c8 .before .lot-of-first .result ≡ lotOf (runsOn ls) =
-    lot-made ls (c8 .before .lot-of-first .result) (c8 .before .before .first-runs .result) (c8 .before .before .before .count-lines .result) (c8 .before .before .before .count-lines .ensures)
-    (c8 .before .before .first-runs .ensures) (c8 .before .lot-of-first .ensures) in
-    let e = runs-refused ls (λ z. c .before .before .before .before .before .before .before .if1 .taken (ap (λ (l : Lot). l .number) lot ∙ z)) in
+    let lot : c9 .before .lot-of-first .result ≡ lotOf (runsOn ls) =
+    lot-made ls (c9 .before .lot-of-first .result) (c9 .before .before .first-runs .result) (c9 .before .before .before .count-lines .result) (c9 .before .before .before .count-lines .ensures)
+    (c9 .before .before .first-runs .ensures) (c9 .before .lot-of-first .ensures) in
+    let e = runs-refused ls (λ z. c .before .before .before .before .before .before .before .before .if1 .taken (ap (λ (l : Lot). l .number) lot ∙ z)) in
     let w = rw lot at (c .before .before .refused-text .ensures) in
     (w .0 ∙ ap length (sym e), w .1 ∙ ap (put (a .out .now) 0) (sym e))
 
@@ -101,6 +105,7 @@ report-runs-spec =
     cast-refused-text
     cast-refused-text-2
     cast-refused-text-3
+    cast-refused-text-4
     refused-text-requires
     same-length
     returns

@@ -78,10 +78,11 @@ bad-line-requires c κs = omega (arith, c .next-line .ensures, until-within LF (
 
 refused-text-requires-4 : tie.Need-refused-text-requires-4
 refused-text-requires-4 c κs =
+    let c8 = c .before .before .before .before .before .before .before .before in
     let a = c .before .before .before .before .before .before .before .before .before .before .before .args in
     let t = a .text .now in
     let bad = bad-printable t (c .before .before .before .before .before .before .before .before .if1 .left) (c .before .before .before .next-line .result) in
-    (omega arith, omega arith, rw (c .before .before .bad-line .ensures) bad, omega (arith, c .before .before .before .before .before .before .before .before .before .before .before .pre))
+    (omega arith, omega arith, rw (c .before .before .bad-line .ensures) bad, omega arith, omega (arith, c8 .before .before .before .pre))
 
 same-length-4 : tie.Need-same-length-4
 same-length-4 c = search needs

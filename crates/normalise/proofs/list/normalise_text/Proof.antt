@@ -55,34 +55,37 @@ cast-refused-text-2 c = search needs
 cast-refused-text-3 : tie.Need-cast-refused-text-3
 cast-refused-text-3 c = search needs
 
+cast-refused-text-4 : tie.Need-cast-refused-text-4
+cast-refused-text-4 c = search needs
+
 refused-text-requires-2 : tie.Need-refused-text-requires-2
 refused-text-requires-2 c κs =
-    let c8 = c .before .before .before .before .before .before .before .before in
-    let c16 = c8 .before .before .before .before .before .before .before .before in
-    let a = c16 .before .args in
-    let ends = sym (c8 .before .before .before .before .ends-in-lf .ensures) ∙ not-false _ (c8 .before .before .before .if1 .left) in
-    let w = c8 .normal in
+    let c9 = c .before .before .before .before .before .before .before .before .before in
+    let c17 = c9 .before .before .before .before .before .before .before .before in
+    let a = c17 .before .args in
+    let ends = sym (c9 .before .before .before .before .ends-in-lf .ensures) ∙ not-false _ (c9 .before .before .before .if1 .left) in
+    let w = c9 .normal in
     let m = w .result in
     let e = w .ensures in
-    let p = answer-printable (a .file .now) (a .name .now) (a .text .now) (a .out .now) ends (c16 .before .pre .0) m (e .0) (c .before .before .before .before .if2 .taken) in
-    (p .0, p .1, p .2, omega (arith, c16 .before .pre .1, w .kept .1 .1 .1 .0))
+    let p = answer-printable (a .file .now) (a .name .now) (a .text .now) (a .out .now) ends (c17 .before .pre .0) m (e .0) (c .before .before .before .before .before .if2 .taken) in
+    (p .0, p .1, p .2, p .3, omega (arith, c17 .before .pre .1, w .kept .1 .1 .1 .0))
 
 same-length-2 : tie.Need-same-length-2
 same-length-2 c = search needs
 
 returns-2 : tie.Need-returns-2
 returns-2 c =
-    let c8 = c .before .before .before .before .before .before .before .before in
-    let c16 = c8 .before .before .before .before .before .before .before .before in
-    let a = c16 .before .before .before .before .args in
-    let ends = sym (c8 .before .before .before .before .before .before .before .ends-in-lf .ensures) ∙ not-false _ (c8 .before .before .before .before .before .before .if1 .left) in
-    let w = c8 .before .before .before .normal in
+    let c9 = c .before .before .before .before .before .before .before .before .before in
+    let c17 = c9 .before .before .before .before .before .before .before .before in
+    let a = c17 .before .before .before .before .args in
+    let ends = sym (c9 .before .before .before .before .before .before .before .ends-in-lf .ensures) ∙ not-false _ (c9 .before .before .before .before .before .before .if1 .left) in
+    let w = c9 .before .before .before .normal in
     let m = w .result in
     let e = w .ensures in
-    let t = text-refused (a .file .now) (a .name .now) (a .text .now) (a .out .now) ends (c16 .before .before .before .before .pre .0) m (e .0)
-    (c .before .before .before .before .before .before .before .if2 .taken) in
+    let t = text-refused (a .file .now) (a .name .now) (a .text .now) (a .out .now) ends (c17 .before .before .before .before .pre .0) m (e .0)
+    (c .before .before .before .before .before .before .before .before .if2 .taken) in
     let v = c .before .before .refused-text2 .ensures in
-    let line = refusedText (m .number) (m .list) (m .line) in
+    let line = refusedText (m .number) (m .list) (m .line) (m .place) in
     wrote-text (a .out .now) line _ _ _ (v .0, v .1 ∙ ap (λ (l : List ℕ). put l 0 line) (e .1 ∙ t .1)) (sym (t .0))
 
 cast-result : tie.Need-cast-result
@@ -116,6 +119,7 @@ normalise-text-spec =
     cast-refused-text
     cast-refused-text-2
     cast-refused-text-3
+    cast-refused-text-4
     refused-text-requires-2
     same-length-2
     returns-2
