@@ -37,7 +37,7 @@ extern "C" {
  *
  *     if (!CARD_FITS(card_version())) fail("card.h and libcard_abi.a are of different versions");
  */
-#define CARD_VERSION_MAJOR 1u
+#define CARD_VERSION_MAJOR 2u
 #define CARD_VERSION_MINOR 0u
 #define CARD_VERSION (CARD_VERSION_MAJOR << 16 | CARD_VERSION_MINOR)
 #define CARD_FITS(version) ((version) >> 16 == CARD_VERSION_MAJOR && ((version)&0xffffu) + 1 > CARD_VERSION_MINOR)
@@ -46,8 +46,12 @@ uint32_t card_version(void);
 
 /*
  * Why a call is refused. The first that holds is told, in this order: 1; 2; list 1; list 2; 17; 16; 18, each where the call
- * has that input. Within a list: 3, then the lines from the top. On a line: 4, 5, 15, then 6 to 14 as numbered. A number is
- * told only where what it says is so. Numbers from 30 on are kept for calls to come.
+ * has that input. Within a list: 3, then the lines from the top. On a line: 4, 5, 15, 6 to 9, then for each allele of ALT in turn
+ * 20, 21, 22 (and 23 of the second), then 11 to 14. A number is told only where what it says is so. 10 is given no more: 20 to 23
+ * stand in its place, and tell the allele. Numbers from 30 on are kept for calls to come.
+ *
+ * The first allele of ALT is what stands before the first comma, or all of ALT where there is none. The second is all that stands
+ * behind that comma: a further comma is a wrong byte of it. An empty allele begins at the comma or TAB that ends it.
  */
 enum card_refusal {
     CARD_ANSWERED = 0,            /* the call is not refused */
@@ -64,8 +68,6 @@ enum card_refusal {
     CARD_WRONG_CHROM = 7,         /* CHROM is not the name given */
     CARD_WRONG_POS = 8,           /* POS is not 1 to 65,535, decimal, without leading zero */
     CARD_WRONG_REF = 9,           /* REF is not 1 to 64 of A, C, G, T, N */
-    CARD_WRONG_ALT = 10,          /* ALT is not one allele, or two with a comma between, each 1 to 64 of A, C, G, T, N,
-                                     different from REF and from each other */
     CARD_WRONG_GENOTYPE = 11,     /* FORMAT is not GT and does not begin with GT:, or the sample does not begin with a
                                      genotype of two digits, each at most the number of ALTs, with / or | between */
     CARD_GENOTYPE_ZERO = 12,      /* the genotype is 0/0 */
@@ -75,7 +77,11 @@ enum card_refusal {
     CARD_NO_CLUSTER = 16,         /* the cluster's number is not below the number of clusters */
     CARD_NOT_THE_PLAN = 17,       /* the plan given is not the plan of these lists: only its first records, as many as there
                                      are clusters, are judged */
-    CARD_NO_ALLELE = 18           /* no such entry in the list, or an allele number above its number of ALTs */
+    CARD_NO_ALLELE = 18,          /* no such entry in the list, or an allele number above its number of ALTs */
+    CARD_WRONG_SIZE = 20,         /* an allele of ALT is empty or over 64 bytes */
+    CARD_WRONG_BYTE = 21,         /* an allele of ALT has a byte that is none of A, C, G, T, N */
+    CARD_ALT_IS_REF = 22,         /* an allele of ALT is equal to REF */
+    CARD_EQUAL_ALTS = 23          /* the second allele of ALT is equal to the first */
 };
 
 /*
@@ -105,9 +111,6 @@ static inline const char *card_refusal_text(uint32_t number)
         return "POS is not 1 to 65,535, decimal, without leading zero";
     case 9:
         return "REF is not 1 to 64 of A, C, G, T, N";
-    case 10:
-        return "ALT is not one allele, or two with a comma between, each 1 to 64 of A, C, G, T, N, different "
-               "from REF and from each other";
     case 11:
         return "FORMAT does not begin with GT, or the genotype is not two digits, each at most the number of "
                "ALTs, with / or | between";
@@ -125,6 +128,14 @@ static inline const char *card_refusal_text(uint32_t number)
         return "the plan given is not the plan of these lists";
     case 18:
         return "the list has no such entry, or the entry has no such allele";
+    case 20:
+        return "an allele of ALT is empty or over 64 bytes";
+    case 21:
+        return "an allele of ALT has a byte that is none of A, C, G, T, N";
+    case 22:
+        return "an allele of ALT is equal to REF";
+    case 23:
+        return "the second allele of ALT is equal to the first";
     case 30:
         return "there is no run, or there are more than 256";
     case 31:
@@ -138,13 +149,15 @@ static inline const char *card_refusal_text(uint32_t number)
  * What a call answers.
  *
  * Refused: number is a card_refusal above 0. list is the list that it is about, 1 or 2, and 0 where it is about none (1, 2,
- * 16, 17, 18). line is the line in that list's text, from 1, and 0 where it is about none (those and 3). value is 0.
+ * 16, 17, 18). line is the line in that list's text, from 1, and 0 where it is about none (those and 3). place is the byte in that
+ * line, from 0, where the allele at fault begins (20 to 23; 23 is told at the second), and 0 for all other numbers. value is 0.
  * A call with one list calls it list 1.
  *
- * Answered: number is CARD_ANSWERED, and the call says what value is. list and line are 0 where it does not speak of them.
+ * Answered: number is CARD_ANSWERED, place is 0, and the call says what value is. list and line are 0 where it does not speak of
+ * them.
  */
 typedef struct {
-    uint32_t number, list, line, value;
+    uint32_t number, list, line, place, value;
 } card_answer;
 
 /* The most that the card takes: so many bases of a reference, so many bytes of a list's text. */
@@ -161,8 +174,8 @@ enum { CARD_BASES_MOST = 65535, CARD_TEXT_MOST = 65536 };
  * allele      0 for REF, 1 and 2 for the ALTs
  *
  * Answered: allele 0 is a part of the reference (list 0), 1 and 2 are parts of the text (list 1). The part begins at offset
- * line, from 0, and is value bytes long. No allele is empty, so value is above 0 exactly where the call is answered.
- * Refused: 1, 3 to 15 and 18.
+ * line, from 0, and is value bytes long; place is 0. No allele is empty, so value is above 0 exactly where the call is answered.
+ * Refused: 1, 3 to 9, 11 to 15, 20 to 23, and 18 last.
  */
 card_answer card_allele(const uint8_t *reference, size_t reference_count, const uint8_t *name, size_t name_count,
                         const uint8_t *text, size_t text_count, size_t entry, size_t allele);
@@ -176,7 +189,7 @@ card_answer card_allele(const uint8_t *reference, size_t reference_count, const 
  * Answered: value is how many bytes were written, from the first on; no other byte of out changes. Header lines come first,
  * then the records by new POS, equal POS in the order read. Only POS, REF and ALT are replaced. What is written is accepted by
  * every call, gives the same donors, and written again is itself.
- * Refused: 1, 2, 3 to 15. No byte of out changes.
+ * Refused: 1, 2, 3 to 9, 11 to 15, 20 to 23. No byte of out changes.
  */
 card_answer card_normal(const uint8_t *reference, size_t reference_count, const uint8_t *name, size_t name_count,
                         const uint8_t *text, size_t text_count, uint8_t *out, size_t out_count);
@@ -203,18 +216,18 @@ enum { CARD_LEAST = 1024 };
  * plan              room for CARD_LEAST clusters or more; plan_count counts clusters, not bytes
  *
  * Answered: value is the number of clusters. The plan's first records, one a cluster, are written; no other record changes.
- * Refused: 1, 2, 3 to 15. No record changes.
+ * Refused: 1, 2, 3 to 9, 11 to 15, 20 to 23. No record changes.
  */
 card_answer card_plan(const uint8_t *reference, size_t reference_count, const uint8_t *name, size_t name_count,
                       const uint8_t *first, size_t first_count, const uint8_t *second, size_t second_count,
                       card_cluster *plan, size_t plan_count);
 
 /*
- * What card_mark_all answers. Refused: number, list and line as in card_answer, and two zeros. Answered: number, list and line
- * are 0, clusters is the number of clusters, and score the sum of the scores of those that are decided.
+ * What card_mark_all answers. Refused: number, list, line and place as in card_answer, and two zeros. Answered: these four are 0,
+ * clusters is the number of clusters, and score the sum of the scores of those that are decided.
  */
 typedef struct {
-    uint32_t number, list, line, clusters, score;
+    uint32_t number, list, line, place, clusters, score;
 } card_all_marked;
 
 /*
@@ -225,7 +238,7 @@ typedef struct {
  *
  * Answered: the plan's first records, one a cluster, and the first marks, one an entry, are written; no other record or byte
  * changes.
- * Refused: 1, 2, 3 to 15. No record and no byte changes.
+ * Refused: 1, 2, 3 to 9, 11 to 15, 20 to 23. No record and no byte changes.
  */
 card_all_marked card_mark_all(const uint8_t *reference, size_t reference_count, const uint8_t *name, size_t name_count,
                               const uint8_t *first, size_t first_count, const uint8_t *second, size_t second_count,
@@ -247,7 +260,7 @@ typedef struct {
  *
  * Answered: value is the number of entries of both lists. So many records are written, one an entry, in merged order: POS, then
  * list 1 before list 2, then order in the list; no other record changes.
- * Refused: 1, 2, 3 to 15. No record changes.
+ * Refused: 1, 2, 3 to 9, 11 to 15, 20 to 23. No record changes.
  */
 card_answer card_entries(const uint8_t *reference, size_t reference_count, const uint8_t *name, size_t name_count,
                          const uint8_t *first, size_t first_count, const uint8_t *second, size_t second_count,
@@ -270,7 +283,7 @@ card_answer card_entries(const uint8_t *reference, size_t reference_count, const
  * is CARD_UNDECIDED.
  * Once each cluster has been answered, in whatever order, every entry of a decided cluster has the mark that the best pair over
  * the two whole lists gives it.
- * Refused: 1, 2, 3 to 15, 17, 16. No byte of marks changes.
+ * Refused: 1, 2, 3 to 9, 11 to 15, 20 to 23, 17, 16. No byte of marks changes.
  */
 card_answer card_mark(const uint8_t *reference, size_t reference_count, const uint8_t *name, size_t name_count,
                       const uint8_t *first, size_t first_count, const uint8_t *second, size_t second_count,
@@ -280,10 +293,10 @@ card_answer card_mark(const uint8_t *reference, size_t reference_count, const ui
  * What the marks of two lists count: how many entries of each list are matched ('+' or '-'), unmatched ('0') and undecided
  * ('?'). Where list 1 is the truth, its matched entries over its entries less the undecided ones are the recall.
  *
- * Refused: number, list and line as in card_answer, and six zeros. Answered: number, list and line are 0.
+ * Refused: number, list, line and place as in card_answer, and six zeros. Answered: these four are 0.
  */
 typedef struct {
-    uint32_t number, list, line;
+    uint32_t number, list, line, place;
     uint32_t matched1, unmatched1, undecided1; /* of list 1 */
     uint32_t matched2, unmatched2, undecided2; /* of list 2 */
 } card_counts;
@@ -296,7 +309,7 @@ typedef struct {
  *
  * The marks need not be those of these lists: each byte is taken for the mark of its entry. A byte that is none of the four marks
  * is counted nowhere, so the three counts of a list then add up to less than its entries. Bytes behind the entries are not read.
- * Refused: 1, 2, 3 to 15.
+ * Refused: 1, 2, 3 to 9, 11 to 15, 20 to 23.
  */
 card_counts card_count(const uint8_t *reference, size_t reference_count, const uint8_t *name, size_t name_count,
                        const uint8_t *first, size_t first_count, const uint8_t *second, size_t second_count,

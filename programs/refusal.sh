@@ -1,6 +1,6 @@
 # shellcheck shell=bash disable=SC2154
 # What is told of a refusal: the words of docs/refusals.tsv, the file and the line, and what stands there. Sourced by shared.sh; `start`
-# there leaves `number`, `list` and `line` of the refusal, and `lay_files` the files.
+# there leaves `number`, `list`, `line` and `place` of the refusal, and `lay_files` the files.
 
 # words_of NUMBER: leaves in `wrong` and `todo` what the table says of a refusal.
 words_of() {
@@ -11,10 +11,14 @@ words_of() {
     wrong="the table of refusals has no such number" todo="see $table"
 }
 
-# show_line FILE LINE: its beginning, the bytes that do not print written as \t, \r, .. or in octal.
+# written_line FILE LINE: the line with a $ behind it, the bytes that do not print written as \t, \r, .. or in octal; nothing where the
+# file ends before it.
+written_line() { LC_ALL=C sed -n "$2{l 0;q}" "$1"; }
+
+# show_line FILE LINE: its beginning.
 show_line() {
     local text
-    text=$(LC_ALL=C sed -n "$2{l 0;q}" "$1")
+    text=$(written_line "$1" "$2")
     if [ -z "$text" ]; then
         say "  (the text ends before line $2)"
     elif [ "$text" = "\$" ]; then
@@ -24,6 +28,38 @@ show_line() {
         [[ ! $text =~ ^((\\[0-7]{3}|\\.|[^\\]){60}). ]] || text=${BASH_REMATCH[1]}..
         say "  $text"
     fi
+}
+
+# show_allele FILE LINE PLACE: the line with marks below the allele of ALT that begins at this byte, from 0. It ends at the TAB or, where
+# it is the first, at a comma; an empty one has one mark, below what stands behind it. 60 bytes are shown: the first where they have the
+# whole allele, else those from 20 before it on, or the last.
+show_allele() {
+    local place=$3 text bytes=() count comma='' end=$3 from=0 before allele behind marks='^'
+    text=$(written_line "$1" "$2")
+    text=${text%\$}
+    while [[ $text =~ ^(\\[0-7]{3}|\\.|.) ]]; do
+        bytes+=("${BASH_REMATCH[1]}")
+        text=${text:${#BASH_REMATCH[1]}}
+    done
+    count=${#bytes[@]}
+    if ((place < 1 || place >= count)); then # the file has changed since it was judged
+        show_line "$1" "$2"
+        return
+    fi
+    [ "${bytes[place - 1]}" != '\t' ] || comma=,
+    while ((end < count)) && [[ ${bytes[end]} != '\t' && ${bytes[end]} != "$comma" ]]; do end=$((end + 1)); done
+    if ((place >= 60 || place > 20 && end > 60)); then
+        from=$((place - 20 < count - 60 ? place - 20 : count - 60))
+    fi
+    ((end <= from + 60)) || end=$((from + 60))
+    printf -v before '%s' "${bytes[@]:from:place-from}"
+    printf -v allele '%s' "${bytes[@]:place:end-place}"
+    printf -v behind '%s' "${bytes[@]:end:from+60-end}"
+    ((from == 0)) || before=..$before
+    ((count <= from + 60)) || behind=$behind..
+    [ -z "$allele" ] || marks=${allele//?/^}
+    say "  $before$allele$behind"
+    say "  ${before//?/ }$marks"
 }
 
 # show_file FILE: its size, its end, and its first byte that is no base where it is a reference.
@@ -53,7 +89,10 @@ tell_refusal() {
         say "it is compressed: give <(zcat FILE) in its place"
         return 0
     fi
-    if [ "$line" -gt 0 ]; then show_line "$file" "$line"; else show_file "$file"; fi
+    case $number in
+    20 | 21 | 22 | 23) show_allele "$file" "$line" "$place" ;;
+    *) if [ "$line" -gt 0 ]; then show_line "$file" "$line"; else show_file "$file"; fi ;;
+    esac
     [ "$number" -ne 7 ] || say "  (the name given is ${name[0]-chr1}; --name gives another)"
     say "$todo"
 }

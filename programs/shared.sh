@@ -148,8 +148,8 @@ find_starter() {
     fi
 }
 
-# start FOLDER PROGRAM WORD..: runs it in the folder. Leaves what it prints in $work/printed, and in `number`, `list` and `line` those of
-# its refusal, or 0. The programs have no exit status of their own: another than 0 means that it was not started, or was stopped.
+# start FOLDER PROGRAM WORD..: runs it in the folder. Leaves what it prints in $work/printed, and in `number`, `list`, `line` and `place`
+# those of its refusal, or 0. The programs have no exit status of their own: another than 0 means that it was not started, or was stopped.
 start() {
     local folder=$1 program=$programs/$2 ended word
     shift 2
@@ -162,8 +162,8 @@ start() {
     fi
     [ "$ended" -eq 0 ] || fail "$program ended with status $ended: $(head -n 3 "$work/said")"
     [ "$(tail -c 1 "$work/printed" | od -An -tx1)" = " 0a" ] || fail "$program printed no whole line"
-    IFS=$'\t' read -r word number list line <"$work/printed"
-    [ "$word" = refused ] || number=0 list=0 line=0
+    IFS=$'\t' read -r word number list line place <"$work/printed"
+    [ "$word" = refused ] || number=0 list=0 line=0 place=0
 }
 run_once() {
     ended=0

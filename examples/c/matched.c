@@ -5,7 +5,7 @@
  *
  * One line a matched entry, in merged order: its list, 1 or 2, a TAB, and its record as it stands in the file. The last line
  * counts the others: `unmatched` and `undecided`, each with its number behind it. Where the card refuses the input, the only
- * line is `refused`, number, list and line, and standard error says what is wrong there. Fields are TAB-separated.
+ * line is `refused`, number, list, line and place, and standard error says what is wrong there. Fields are TAB-separated.
  *
  * Exit status: 0; 1 where the card refuses the input; 2 where a file cannot be read, the lines cannot be written, or the library
  * linked is of another version than card.h.
@@ -95,15 +95,20 @@ static void print_matched(const card_entry *entries, const uint8_t *marks, size_
     printf("unmatched\t%zu\tundecided\t%zu\n", unmatched, undecided);
 }
 
-/* Prints a refusal, and says on standard error what is wrong. */
-static void print_refused(unsigned number, unsigned list, unsigned line)
+/*
+ * Prints a refusal, and says on standard error what is wrong. place is above 0 only where it is about an allele of ALT, which stands
+ * behind other fields: it is the byte in the line where that allele begins.
+ */
+static void print_refused(unsigned number, unsigned list, unsigned line, unsigned place)
 {
-    printf("refused\t%u\t%u\t%u\n", number, list, line);
+    printf("refused\t%u\t%u\t%u\t%u\n", number, list, line, place);
     fprintf(stderr, "matched: ");
     if (list > 0)
         fprintf(stderr, "list %u: ", list);
     if (line > 0)
         fprintf(stderr, "line %u: ", line);
+    if (place > 0)
+        fprintf(stderr, "at byte %u, counted from 0: ", place);
     fprintf(stderr, "%s\n", card_refusal_text(number));
 }
 
@@ -118,7 +123,7 @@ static int compare(struct part reference, struct part first, struct part second)
     card_all_marked marked = card_mark_all(reference.bytes, reference.count, name, sizeof name, first.bytes, first.count,
                                            second.bytes, second.count, plan, CARD_LEAST, marks, CARD_LEAST);
     if (marked.number != CARD_ANSWERED) {
-        print_refused(marked.number, marked.list, marked.line);
+        print_refused(marked.number, marked.list, marked.line, marked.place);
         return REFUSED;
     }
     /* The two calls refuse the same lists, so this one is answered. */

@@ -7,7 +7,7 @@
 use std::fmt;
 
 /// The version of include/card.h that this file follows (CARD_VERSION).
-const VERSION: u32 = 1 << 16;
+const VERSION: u32 = 2 << 16;
 
 /// The room that a plan, a buffer of marks and one of entries must have: so many clusters, bytes, entries (CARD_LEAST).
 const LEAST: usize = 1024;
@@ -35,24 +35,29 @@ pub struct Entry {
     pub cluster: u32,
 }
 
-/// Why a call is refused: a number of card_refusal, and the list and the line that it is about, 0 where it is about none.
+/// Why a call is refused: a number of card_refusal; the list and the line that it is about, 0 where it is about none; and the place,
+/// the byte in that line, from 0, where the allele of ALT at fault begins, 0 where it is about no allele of ALT.
 #[repr(C)]
 #[derive(Clone, Copy, Debug, PartialEq, Eq)]
 pub struct Refusal {
     pub number: u32,
     pub list: u32,
     pub line: u32,
+    pub place: u32,
 }
 
 /// Where it is, and what is wrong there.
 impl fmt::Display for Refusal {
     fn fmt(&self, f: &mut fmt::Formatter) -> fmt::Result {
-        let Refusal { number, list, line } = self;
+        let Refusal { number, list, line, place } = self;
         if *list > 0 {
             write!(f, "list {list}: ")?;
         }
         if *line > 0 {
             write!(f, "line {line}: ")?;
+        }
+        if *place > 0 {
+            write!(f, "at byte {place}, counted from 0: ")?;
         }
         let row = REFUSALS.lines().find(|row| row.starts_with(&format!("{number}\t")));
         f.write_str(row.and_then(|row| row.split('\t').nth(2)).unwrap_or_default())

@@ -4,7 +4,7 @@
 //!
 //! It prints what examples/c/matched.c prints: one line a matched entry, in merged order, with its list, 1 or 2, a TAB, and its
 //! record as it stands in the file; then how many are unmatched and undecided. Where the card refuses the input, the only
-//! line is `refused`, number, list and line, and standard error says what is wrong there. Fields are TAB-separated.
+//! line is `refused`, number, list, line and place, and standard error says what is wrong there. Fields are TAB-separated.
 //!
 //! Exit status: 0; 1 where the card refuses the input; 2 where a file cannot be read, the lines cannot be written, or the
 //! library linked is of another version than card.rs.
@@ -46,9 +46,10 @@ fn run() -> Result<ExitCode, String> {
     let (lines, status) = match matched(&lists) {
         Ok(lines) => (lines, ExitCode::SUCCESS),
         Err(refusal) => {
-            let Refusal { number, list, line } = refusal;
+            let Refusal { number, list, line, place } = refusal;
             eprintln!("matched: {refusal}");
-            (format!("refused\t{number}\t{list}\t{line}\n").into_bytes(), ExitCode::from(REFUSED))
+            let line = format!("refused\t{number}\t{list}\t{line}\t{place}\n");
+            (line.into_bytes(), ExitCode::from(REFUSED))
         }
     };
     io::stdout()
