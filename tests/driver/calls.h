@@ -19,11 +19,18 @@ struct call {
     union told (*make)(const struct lent *, const uint64_t *);
 };
 
-_Static_assert(sizeof(card_answer) == 16, "an answer is four numbers of four bytes");
-_Static_assert(sizeof(card_counts) == 36, "counts are nine numbers of four bytes");
-_Static_assert(sizeof(card_all_marked) == 20, "what is told of a whole pair is five numbers of four bytes");
+_Static_assert(sizeof(card_answer) == 20, "an answer is five numbers of four bytes");
+_Static_assert(sizeof(card_counts) == 40, "counts are ten numbers of four bytes");
+_Static_assert(sizeof(card_all_marked) == 24, "what is told of a whole pair is six numbers of four bytes");
 _Static_assert(sizeof(card_cluster) == 8, "a cluster is two numbers of four bytes");
 _Static_assert(sizeof(card_entry) == 16, "an entry is four numbers of four bytes");
+
+/* A refusal's numbers stand first, in one order: number, list, line, place. */
+#define REFUSAL_FIRST(told) \
+    (offsetof(told, number) == 0 && offsetof(told, list) == 4 && offsetof(told, line) == 8 && offsetof(told, place) == 12)
+_Static_assert(REFUSAL_FIRST(card_answer) && offsetof(card_answer, value) == 16, "the numbers of an answer");
+_Static_assert(REFUSAL_FIRST(card_counts) && offsetof(card_counts, matched1) == 16, "the numbers of counts");
+_Static_assert(REFUSAL_FIRST(card_all_marked) && offsetof(card_all_marked, clusters) == 16, "the numbers of a whole pair");
 
 /* The header's own version fits, and one with a larger minor part; another major part does not, nor a smaller minor part. */
 _Static_assert(CARD_FITS(CARD_VERSION) && CARD_FITS(CARD_VERSION + 1u), "a version that fits");
@@ -97,7 +104,7 @@ static union told version(const struct lent *l, const uint64_t *n)
     uint32_t version = card_version();
     if (version == CARD_VERSION && CARD_FITS(version))
         return (union told){0};
-    return (union told){.answer = {1, 0, 0, version}};
+    return (union told){.answer = {1, 0, 0, 0, version}};
 }
 
 /* The calls by their number in a case. */

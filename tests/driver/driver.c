@@ -8,8 +8,9 @@
  *               each lent buffer, in the call's order: its count of bytes (4) and its bytes, or 0xFFFFFFFF for the buffer that
  *               was lent last in this place, with what the call left in it;
  *               each number (8)
- *   its answer  the numbers of card_answer, card_counts or card_all_marked (4 bytes each); of card_version those of a
- *               card_answer, its number 0 where the library's version is the header's, else 1;
+ *   its answer  the numbers of card_answer, card_counts or card_all_marked (4 bytes each): number, list, line and place, then
+ *               its values; of card_version those of a card_answer, its number 0 where the library's version is the header's,
+ *               else 1;
  *               one byte, 1 where a byte changed that the call may not write, else 0: a lent one, any where the call is
  *               refused, or one beside them;
  *               all bytes of each buffer that the call may write: card_mark_all may write its last two, any other its last

@@ -1,4 +1,4 @@
-//! The comparison card, written a second time from document 01, request d and include/card.h alone.
+//! The comparison card, written a second time from document 01, requests a and d and include/card.h alone.
 //!
 //! It exists to be compared with: each rule stands once, in document 01's words, and the two places
 //! that matter most, the best pair and the normal form, stand twice, by definition and by a search
@@ -8,7 +8,7 @@
 //!   (recall for a reagent lot)
 //! - what the programs print: `programs` (compare, normalise, counts, lot_report), `report` (the table of a lot)
 //! - what is turned away: `refusal`
-//! - reading: `reference`, `part`, `entry`, `record`, `list`
+//! - reading: `reference`, `part`, `entry`, `alt`, `record`, `list`
 //! - the normal form: `normal_form` (definition), `normal_loop` (shift and trim), `written` (the text)
 //! - matching: `choice`, `donor`, `merged`, `best` (every pair of choices), `best_pruned`
 //! - clusters: `gap` (where to cut), `clusters`, `counts` (what marks count)
@@ -19,6 +19,7 @@
 
 #![forbid(unsafe_code)]
 
+pub mod alt;
 pub mod best;
 pub mod best_pruned;
 pub mod card;

@@ -1,4 +1,4 @@
-//! A list text: row 3, then the lines from the top, on each rows 4, 5, 15 and 6 to 14.
+//! A list text: row 3, then the lines from the top, on each rows 4, 5, 15, those of a record, and 14.
 
 use crate::entry::Entry;
 use crate::part::{Part, LF, TAB};
@@ -57,9 +57,9 @@ struct Reader<'a> {
 
 impl Reader<'_> {
     /// Takes the next line, or gives the first row that holds on it.
-    fn take(&mut self, line: Part, is_first: bool) -> Result<(), u32> {
+    fn take(&mut self, line: Part, is_first: bool) -> Result<(), Row> {
         if line.length > LINE_MOST {
-            return Err(LONG_LINE);
+            return Err(LONG_LINE.into());
         }
         match self.header {
             None => self.take_header(line, is_first),
@@ -67,32 +67,32 @@ impl Reader<'_> {
         }
     }
 
-    fn take_header(&mut self, line: Part, is_first: bool) -> Result<(), u32> {
+    fn take_header(&mut self, line: Part, is_first: bool) -> Result<(), Row> {
         let bytes = line.of(self.text);
         if is_first && bytes != VERSION_LINE {
-            return Err(WRONG_HEADER);
+            return Err(WRONG_HEADER.into());
         }
         if bytes.starts_with(b"##") {
             return Ok(());
         }
         if !is_column_line(bytes) {
-            return Err(WRONG_HEADER);
+            return Err(WRONG_HEADER.into());
         }
         self.header = Some(Part { start: 0, length: line.end() + 1 });
         Ok(())
     }
 
-    fn take_record(&mut self, line: Part) -> Result<(), u32> {
+    fn take_record(&mut self, line: Part) -> Result<(), Row> {
         if line.of(self.text).starts_with(b"#") {
-            return Err(WRONG_HEADER);
+            return Err(WRONG_HEADER.into());
         }
         if self.records.len() == RECORDS_MOST {
-            return Err(ONE_RECORD_TOO_MANY);
+            return Err(ONE_RECORD_TOO_MANY.into());
         }
         let record = record::read(self.reference, self.name, self.text, line)?;
         if let Some(before) = self.records.last() {
             if record.entry.pos < before.entry.pos {
-                return Err(POS_FALLS);
+                return Err(POS_FALLS.into());
             }
         }
         self.records.push(record);

@@ -1,6 +1,5 @@
-//! A part of a text, by its offset, and the cutting of a part at each separator.
-//!
-//! Lines of a text, fields of a line and ALTs of a field are all cut by the one function here.
+//! A part of a text, by its offset, and the cutting of a part: lines of a text and fields of a line at each
+//! separator, the field ALT at its first comma alone.
 
 pub const LF: u8 = b'\n';
 pub const TAB: u8 = b'\t';
@@ -34,5 +33,17 @@ impl Part {
             part
         };
         self.of(text).split(|&byte| byte == separator).map(between).collect()
+    }
+
+    /// The part up to the first separator and, where there is one, all that stands behind it.
+    pub fn split_once(self, text: &[u8], separator: u8) -> (Part, Option<Part>) {
+        match self.of(text).iter().position(|&byte| byte == separator) {
+            None => (self, None),
+            Some(length) => {
+                let before = Part { start: self.start, length };
+                let start = before.end() + 1;
+                (before, Some(Part { start, length: self.end() - start }))
+            }
+        }
     }
 }

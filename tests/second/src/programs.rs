@@ -37,8 +37,8 @@ pub fn lot_report(runs: &[u8]) -> Vec<u8> {
 }
 
 fn refused(refusal: Refusal) -> Vec<u8> {
-    let Refusal { number, list, line } = refusal;
-    format!("refused\t{number}\t{list}\t{line}\n").into_bytes()
+    let Refusal { number, list, line, place } = refusal;
+    format!("refused\t{number}\t{list}\t{line}\t{place}\n").into_bytes()
 }
 
 fn normalised(reference_file: &[u8], name: &[u8], first: &[u8]) -> Result<Vec<u8>, Refusal> {

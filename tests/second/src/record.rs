@@ -1,15 +1,15 @@
-//! One record line: rows 6 to 13 of document 01, tried as numbered.
+//! One record line: rows 6 to 13 of document 01, tried as numbered, with rows 20 to 23 in the place of 10.
 //!
 //! ID, QUAL, FILTER and INFO are carried: nothing here looks at them but for being there.
 
+use crate::alt;
 use crate::entry::Entry;
-use crate::part::{Part, COLON, COMMA, TAB};
+use crate::part::{Part, COLON, TAB};
 use crate::reference::{is_base, REFERENCE_MOST};
 use crate::refusal::*;
 
 const FIELDS: usize = 10;
-const ALLELE_MOST: usize = 64;
-const ALTS_MOST: usize = 2;
+pub const ALLELE_MOST: usize = 64;
 
 /// An entry, and the parts of the text that hold it.
 #[derive(Clone, Debug, PartialEq, Eq)]
@@ -23,36 +23,32 @@ pub struct Record {
 }
 
 /// Reads one line, or gives the first row that holds on it.
-pub fn read(reference: &[u8], name: &[u8], text: &[u8], line: Part) -> Result<Record, u32> {
+pub fn read(reference: &[u8], name: &[u8], text: &[u8], line: Part) -> Result<Record, Row> {
     let fields = ten_fields(text, line).ok_or(NOT_TEN_FIELDS)?;
     let [chrom, pos, _, reference_field, alt, _, _, _, format, sample] = fields;
     if chrom.of(text) != name {
-        return Err(WRONG_CHROM);
+        return Err(WRONG_CHROM.into());
     }
     let position = position(pos.of(text)).ok_or(WRONG_POS)?;
     let replaced = reference_field.of(text);
     if !is_allele(replaced) {
-        return Err(WRONG_REF);
+        return Err(WRONG_REF.into());
     }
-    let alts = alt.split(text, COMMA);
-    let replacing: Vec<&[u8]> = alts.iter().map(|part| part.of(text)).collect();
-    if !are_alts(replaced, &replacing) {
-        return Err(WRONG_ALT);
-    }
+    let alts = alt::read(text, line, alt, replaced)?;
     if !is_format(format.of(text)) {
-        return Err(WRONG_GENOTYPE);
+        return Err(WRONG_GENOTYPE.into());
     }
     let copies = genotype(sample.of(text), alts.len()).ok_or(WRONG_GENOTYPE)?;
     if copies == [0, 0] {
-        return Err(GENOTYPE_ZERO);
+        return Err(GENOTYPE_ZERO.into());
     }
     if !reference[(position - 1).min(reference.len())..].starts_with(replaced) {
-        return Err(NOT_THE_REFERENCE);
+        return Err(NOT_THE_REFERENCE.into());
     }
     let entry = Entry {
         pos: position,
         reference: replaced.to_vec(),
-        alts: replacing.into_iter().map(<[u8]>::to_vec).collect(),
+        alts: alts.iter().map(|part| part.of(text).to_vec()).collect(),
         copies,
     };
     Ok(Record { entry, line, pos, reference: reference_field, alts })
@@ -78,13 +74,6 @@ fn position(field: &[u8]) -> Option<usize> {
 /// 1 to 64 of A, C, G, T, N.
 fn is_allele(bytes: &[u8]) -> bool {
     (1..=ALLELE_MOST).contains(&bytes.len()) && bytes.iter().all(|&byte| is_base(byte))
-}
-
-/// One or two alleles that differ from REF and from each other.
-fn are_alts(reference: &[u8], alts: &[&[u8]]) -> bool {
-    alts.len() <= ALTS_MOST
-        && alts.iter().all(|alt| is_allele(alt) && *alt != reference)
-        && (alts.len() < ALTS_MOST || alts[0] != alts[1])
 }
 
 /// `GT`, or begins with `GT:`.

@@ -1,5 +1,6 @@
 //! Whole runs of a program: in drawn folders, what it prints is held to what is expected, byte by byte.
 
+use crate::drive::at_allele::at_allele;
 use crate::drive::draw::names::Given;
 use std::collections::BTreeMap;
 use std::ffi::OsStr;
@@ -10,10 +11,13 @@ use std::process::{Command, Stdio};
 /// One in so many folders, at least, is to be accepted, and one in so many refused.
 const ONCE_IN: u64 = 10;
 
+/// A file's name and its bytes.
+type File = (&'static str, Option<Vec<u8>>);
+
 /// A folder for the program to run in, and what it is to print there.
 pub struct Folder {
-    /// Names and bytes of the files, None for one that is missing.
-    pub files: Vec<(&'static str, Option<Vec<u8>>)>,
+    /// Names and bytes of the files, None for one that is missing. Of a program that reads lists, list 1 is the second of them.
+    pub files: Vec<File>,
     /// The name that the program is given, where it may be given one.
     pub given: Option<Given>,
     pub expected: Vec<u8>,
@@ -25,7 +29,7 @@ pub struct Held {
     folders: u64,
     accepted: u64,
     differences: u64,
-    /// How often each kind was to be printed: `refused`, number and list, or what is told of an accepted folder.
+    /// How often each kind was to be printed: `refused`, number, list and allele of ALT, or what is told of an accepted folder.
     kinds: BTreeMap<String, u64>,
     /// How often each kind of name was given, to be answered and to be refused.
     given: BTreeMap<String, u64>,
@@ -41,7 +45,7 @@ pub fn hold(
     let mut place = std::env::temp_dir().join(format!("whole-{}", std::process::id()));
     let mut held = Held::default();
     for Folder { files, given, expected } in folders {
-        held.note(&String::from_utf8_lossy(&expected), kind, given.as_ref());
+        held.note(&String::from_utf8_lossy(&expected), &files, kind, given.as_ref());
         lay(&place, &files);
         let name = given.and_then(|given| given.name);
         let (succeeded, printed) = run(command, name.as_deref(), &place);
@@ -63,8 +67,14 @@ pub fn hold(
 }
 
 impl Held {
-    fn note(&mut self, expected: &str, kind: fn(&str) -> String, given: Option<&Given>) {
-        let (kind, comes_to) = match refusal(expected) {
+    fn note(
+        &mut self,
+        expected: &str,
+        files: &[File],
+        kind: fn(&str) -> String,
+        given: Option<&Given>,
+    ) {
+        let (kind, comes_to) = match refusal(expected, files) {
             Some(refusal) => (refusal, "refused"),
             None => {
                 self.accepted += 1;
@@ -79,16 +89,23 @@ impl Held {
     }
 
     /// Whether nothing differs, folders of both sorts are not rare, and each kind of `demanded` is there.
-    pub fn is_good(&self, demanded: &[&str]) -> bool {
+    pub fn is_good(&self, demanded: &[impl AsRef<str>]) -> bool {
         let least = self.folders / ONCE_IN;
         let are_of_both = self.accepted >= least && self.folders - self.accepted >= least;
+        self.differences == 0 && are_of_both && self.missing(demanded).is_empty()
+    }
+
+    /// The kinds of `demanded` that are not there.
+    pub fn missing<'a>(&self, demanded: &'a [impl AsRef<str>]) -> Vec<&'a str> {
         let is_there = |kind: &str| self.kinds.contains_key(kind) || self.given.contains_key(kind);
-        let are_there = demanded.iter().all(|kind| is_there(kind));
-        self.differences == 0 && are_of_both && are_there
+        demanded.iter().map(AsRef::as_ref).filter(|kind| !is_there(kind)).collect()
     }
 
     pub fn tell(&self, program: &str, seed: u64) {
-        println!("printed, and number/list where refused: {}", counted(&self.kinds));
+        println!(
+            "printed, and number/list and allele of ALT where refused: {}",
+            counted(&self.kinds)
+        );
         if !self.given.is_empty() {
             println!("given: {}", counted(&self.given));
         }
@@ -104,13 +121,17 @@ fn counted(kinds: &BTreeMap<String, u64>) -> String {
     kinds.join(", ")
 }
 
-/// `refused`, number and list of a line that tells a refusal.
-fn refusal(printed: &str) -> Option<String> {
-    let fields: Vec<&str> = printed.strip_prefix("refused\t")?.split('\t').collect();
-    Some(format!("refused {}/{}", fields[0], fields[1]))
+/// `refused`, number and list of a line that tells a refusal, and the allele of ALT where it is told at one.
+fn refusal(printed: &str, files: &[File]) -> Option<String> {
+    let fields = printed.strip_prefix("refused\t")?.trim_end().split('\t');
+    let numbers: Vec<u32> = fields.map(|field| field.parse().expect("a number")).collect();
+    let [number, list, line, place] = numbers[..] else { panic!("not four numbers: {printed}") };
+    let text = files.get(list as usize).and_then(|(_, bytes)| bytes.as_deref());
+    let allele = at_allele(number, text.unwrap_or_default(), line, place);
+    Some(format!("refused {number}/{list} {allele}").trim_end().to_string())
 }
 
-fn lay(place: &Path, files: &[(&str, Option<Vec<u8>>)]) {
+fn lay(place: &Path, files: &[File]) {
     std::fs::create_dir_all(place).expect("a folder");
     for (name, bytes) in files {
         if let Some(bytes) = bytes {

@@ -9,7 +9,7 @@ use second::{Refusal, Shown};
 
 #[test]
 fn every_allele_of_random_lists_is_shown() {
-    let refusal = Refusal { number: 18, list: 0, line: 0 };
+    let refusal = Refusal { number: 18, list: 0, line: 0, place: 0 };
     let mut shown = [0; 3];
     for seed in 700_000..702_000 {
         let mut random = Random::new(seed);

@@ -4,7 +4,7 @@ mod common;
 
 use common::calls::normal;
 use common::lists::{all_lines, line, raw, text, COLUMN_LINE, FIRST_RECORD, NAME, VERSION_LINE};
-use common::refused::{assert_accepted, assert_refused};
+use common::refused::{assert_accepted, assert_refused, assert_refused_at};
 
 #[test]
 fn ref_of_64_and_65_bases() {
@@ -24,8 +24,15 @@ fn either_alt_of_64_and_65_bases() {
     for alt in [most.clone(), format!("{most},G"), format!("G,{most}")] {
         assert_accepted("GCA", &text(&[&format!("2 C {alt} 1/1")]), 1);
     }
-    for alt in [over.clone(), format!("{over},G"), format!("G,{over}")] {
-        assert_refused("GCA", &text(&[&format!("2 C {alt} 1/1")]), 10, FIRST_RECORD);
+    // ALT begins at byte 12 of a line.
+    for (alt, place) in [
+        (over.clone(), 12),
+        (format!("{over},G"), 12),
+        (format!("{over},{over}"), 12),
+        (format!("G,{over}"), 14),
+        (format!("{most},{over}"), 12 + 65),
+    ] {
+        assert_refused_at("GCA", &text(&[&format!("2 C {alt} 1/1")]), 20, FIRST_RECORD, place);
     }
 }
 

@@ -25,7 +25,7 @@ fn references_of_0_1_65535_and_65536_bases() {
     let empty = text(&[]);
     for (length, taken) in [(0, false), (1, true), (65_535, true), (65_536, false)] {
         let reference = vec![b'N'; length];
-        let refusal = Refusal { number: 1, list: 0, line: 0 };
+        let refusal = Refusal { number: 1, list: 0, line: 0, place: 0 };
         let expected = if taken { Ok(vec![]) } else { Err(refusal) };
         let (first, second) = (empty.clone(), empty.clone());
         assert_eq!(Case { reference, first, second }.plan(), expected);
@@ -66,7 +66,7 @@ fn as_many_clusters_as_entries() {
     let mut marks = vec![OLD_MARK; 1_024];
     assert_eq!(case.mark(&plan, 1_023, &mut marks), Ok(Marked::Score(0)));
     assert_eq!(marks[1_022..], [OLD_MARK, b'0']);
-    let refusal = Refusal { number: 16, list: 0, line: 0 };
+    let refusal = Refusal { number: 16, list: 0, line: 0, place: 0 };
     assert_eq!(case.mark(&plan, 1_024, &mut marks), Err(refusal));
 }
 
@@ -74,7 +74,7 @@ fn as_many_clusters_as_entries() {
 fn plan_and_marks_of_1023_1024_and_1025() {
     let case = Case::new("GCA", &["2 C T 0/1"], &["2 C T 0/1"]);
     let (reference, first, second) = (&case.reference, &case.first, &case.second);
-    let refusal = Refusal { number: 2, list: 0, line: 0 };
+    let refusal = Refusal { number: 2, list: 0, line: 0, place: 0 };
     for (room, small) in [(1_023, true), (1_024, false), (1_025, false)] {
         let (mut plan, mut marks) = (vec![OLD_CLUSTER; room], vec![OLD_MARK; room]);
         let expected = if small { Err(refusal) } else { Ok(1) };
@@ -123,7 +123,7 @@ fn the_last_entry_and_the_last_allele() {
     assert_eq!(shown(1, 0), Ok(Shown::Reference { start: 2, length: 1 }));
     let part = shown(1, 2).expect("the last ALT");
     assert_eq!(part.bytes(b"GCA", &list), b"AT");
-    let refusal = Refusal { number: 18, list: 0, line: 0 };
+    let refusal = Refusal { number: 18, list: 0, line: 0, place: 0 };
     for (entry, allele) in [(2, 0), (1, 3), (0, 2), (usize::MAX, 0), (0, usize::MAX)] {
         assert_eq!(shown(entry, allele), Err(refusal));
     }

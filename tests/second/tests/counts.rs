@@ -53,7 +53,7 @@ fn a_byte_that_is_no_mark_is_counted_nowhere() {
 #[test]
 fn too_few_marks_are_refused_before_a_list_is_read() {
     let mut case = five_entries();
-    let refused = |number, list, line| Err(Refusal { number, list, line });
+    let refused = |number, list, line| Err(Refusal { number, list, line, place: 0 });
     for length in [0, 5, 1_023] {
         assert_eq!(case.count(&vec![b'+'; length]), refused(2, 0, 0));
     }

@@ -6,21 +6,26 @@ mod common;
 use common::damage::damage;
 use common::lists::{text_of, NAME};
 use common::random::Random;
-use common::rows::{row_3_holds, Lines, ON_A_LINE};
+use common::rows::{row_3_holds, Lines, Row, ON_A_LINE};
 use common::world::World;
 use second::Refusal;
+use std::collections::BTreeMap;
 
-const CASES: u64 = 25_000;
+const CASES: u64 = 35_000;
 
-/// The refusal that the predicates demand.
-fn demanded(reference: &[u8], text: &[u8]) -> Option<Refusal> {
+/// In the place of a row where none holds.
+const NONE: Row = (0, 0);
+
+/// The row that holds first, and the refusal that the predicates demand.
+fn demanded(reference: &[u8], text: &[u8]) -> Option<(Row, Refusal)> {
     if row_3_holds(text) {
-        return Some(Refusal { number: 3, list: 1, line: 0 });
+        return Some(((3, 0), Refusal { number: 3, list: 1, line: 0, place: 0 }));
     }
     let lines = Lines::new(reference, NAME, text);
     for line in 1..=lines.count() + 1 {
-        if let Some(&number) = ON_A_LINE.iter().find(|row| lines.holds(**row, line)) {
-            return Some(Refusal { number, list: 1, line: line as u32 });
+        if let Some(&row) = ON_A_LINE.iter().find(|row| lines.holds(**row, line)) {
+            let place = lines.place(row, line);
+            return Some((row, Refusal { number: row.0, list: 1, line: line as u32, place }));
         }
     }
     None
@@ -28,7 +33,9 @@ fn demanded(reference: &[u8], text: &[u8]) -> Option<Refusal> {
 
 #[test]
 fn damaged_texts_are_answered_by_the_first_row_that_holds() {
-    let mut seen = [0; 16];
+    let mut seen: BTreeMap<Row, u32> = ON_A_LINE.map(|row| (row, 0)).into();
+    seen.insert((3, 0), 0);
+    seen.insert(NONE, 0);
     for seed in 600_000..600_000 + CASES {
         let mut random = Random::new(seed);
         let world = World::new(&mut random, 8);
@@ -37,11 +44,9 @@ fn damaged_texts_are_answered_by_the_first_row_that_holds() {
             damage(&mut random, &mut text);
         }
         let found = second::read(&world.reference, NAME, 1, &text).err();
-        assert_eq!(found, demanded(&world.reference, &text), "{}", text.escape_ascii());
-        seen[found.map_or(0, |refusal| refusal.number as usize)] += 1;
+        let demanded = demanded(&world.reference, &text);
+        assert_eq!(found, demanded.map(|(_, refusal)| refusal), "{}", text.escape_ascii());
+        *seen.get_mut(&demanded.map_or(NONE, |(row, _)| row)).expect("a row") += 1;
     }
-    let rows = seen.iter().enumerate().filter(|(row, _)| ![1, 2].contains(row));
-    for (row, count) in rows {
-        assert!(*count >= 50, "row {row}, 0 for none: {seen:?}");
-    }
+    assert!(seen.values().all(|count| *count >= 50), "each row with its allele: {seen:?}");
 }

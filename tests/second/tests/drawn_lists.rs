@@ -7,7 +7,7 @@ use common::random::Random;
 use second::drawn::list::Drawn;
 use second::drawn::pairs::{apart, crowd, large, pair, strangers, worlds_and_crowd};
 use second::drawn::sizes::{sized_list, sized_reference, sized_text};
-use second::drive::case::{Call, Case};
+use second::drive::case::{Answer, Call, Case};
 use second::drive::draw::{draw, Asked, CALLS};
 use second::drive::frame::Frames;
 use second::drive::kind::{kinds, Kind};
@@ -80,10 +80,12 @@ fn every_answer_occurs_and_no_other_counts_as_the_same() {
                 let length = left.len().max(1);
                 left.get_mut(number % length)
             });
-            match (number % 2, byte) {
-                (0, None) => other.changed = true,
-                (0, Some(byte)) => *byte ^= 1,
-                _ => other.answer.values[number % values] ^= 1,
+            let Answer { number: row, list, line, place, .. } = &mut other.answer;
+            match (number % 4, byte) {
+                (0 | 2, None) => other.changed = true,
+                (0 | 2, Some(byte)) => *byte ^= 1,
+                (1, _) => other.answer.values[number % values] ^= 1,
+                _ => *[row, list, line, place][number / 4 % 4] ^= 1,
             }
             changed.note(case.clone(), Some(other));
             let told = case.expected.clone();
@@ -97,7 +99,7 @@ fn every_answer_occurs_and_no_other_counts_as_the_same() {
 
 #[test]
 fn changes_by_bytes_come_upon_every_answer_of_every_call_and_no_other() {
-    let seen: BTreeSet<Kind> = cases(Asked::Mutated, 40_000).map(|case| Kind::of(&case)).collect();
+    let seen: BTreeSet<Kind> = cases(Asked::Mutated, 100_000).map(|case| Kind::of(&case)).collect();
     assert_eq!(seen, kinds(Asked::Mutated).into_iter().collect());
 }
 

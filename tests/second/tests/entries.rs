@@ -78,7 +78,7 @@ fn no_entry_is_answered_with_0() {
 #[test]
 fn refused_in_the_order_of_the_rows_and_nothing_written() {
     let (good, bad) = (text(&["2 C T 0/1"]), text(&["2 C T 0/1", "2 C T 0/0"]));
-    let refused = |number, list, line| Err(Refusal { number, list, line });
+    let refused = |number, list, line| Err(Refusal { number, list, line, place: 0 });
     for (reference, first, second, room, expected) in [
         (&b"GcA"[..], &bad[..], &b""[..], 1_023, refused(1, 0, 0)),
         (b"GCA", &bad, b"", 1_023, refused(2, 0, 0)),

@@ -20,7 +20,7 @@ fn run(truth: [u32; 3], called: [u32; 3]) -> Run {
 }
 
 fn refused(number: u32) -> Refusal {
-    Refusal { number, list: 0, line: 0 }
+    Refusal { number, list: 0, line: 0, place: 0 }
 }
 
 #[test]

@@ -34,7 +34,7 @@ fn undecided_clusters_are_counted_and_not_in_the_score() {
 fn refused_in_the_order_of_the_rows_and_nothing_written() {
     let case = three_clusters();
     let (whole, cut) = (&case.first[..], &case.first[..case.first.len() - 1]);
-    let refused = |number, list, line| Err(Refusal { number, list, line });
+    let refused = |number, list, line| Err(Refusal { number, list, line, place: 0 });
     for (reference, first, second, rooms, expected) in [
         (&b"GACGTTGCGA "[..], cut, cut, [1_023, 1_023], refused(1, 0, 0)),
         (&case.reference, cut, cut, [1_023, 1_024], refused(2, 0, 0)),

@@ -26,11 +26,26 @@ fn entries_stand_in_merged_order_with_pos_as_read() {
 fn a_refusal_is_the_only_line() {
     let good = text(&["2 C T 0/1"]);
     let bad = text(&["2 C T 0/1", "1 G T 0/0"]);
-    assert_eq!(second::compare(b"GCA\n", NAME, &good, &bad), b"refused\t12\t2\t4\n");
-    assert_eq!(second::compare(b"GCA\n", NAME, &bad, &good), b"refused\t12\t1\t4\n");
-    assert_eq!(second::compare(b"GCA\n", NAME, b"", b""), b"refused\t3\t1\t0\n");
-    assert_eq!(second::counts(b"GCA\n", NAME, &good, &bad), b"refused\t12\t2\t4\n");
-    assert_eq!(second::normalise(b"GCA\n", NAME, &bad), b"refused\t12\t1\t4\n");
+    assert_eq!(second::compare(b"GCA\n", NAME, &good, &bad), b"refused\t12\t2\t4\t0\n");
+    assert_eq!(second::compare(b"GCA\n", NAME, &bad, &good), b"refused\t12\t1\t4\t0\n");
+    assert_eq!(second::compare(b"GCA\n", NAME, b"", b""), b"refused\t3\t1\t0\t0\n");
+    assert_eq!(second::counts(b"GCA\n", NAME, &good, &bad), b"refused\t12\t2\t4\t0\n");
+    assert_eq!(second::normalise(b"GCA\n", NAME, &bad), b"refused\t12\t1\t4\t0\n");
+}
+
+#[test]
+fn a_refusal_of_an_allele_ends_in_its_place() {
+    let good = text(&["2 C T 0/1"]);
+    for (alt, told) in [("T,", "20\t1\t4\t14"), ("a,T", "21\t1\t4\t12"), ("TT,TT", "23\t1\t4\t15")]
+    {
+        let bad = text(&["2 C T 0/1", &format!("2 C {alt} 0/1")]);
+        let line = format!("refused\t{told}\n").into_bytes();
+        assert_eq!(second::compare(b"GCA\n", NAME, &bad, &good), line);
+        assert_eq!(second::counts(b"GCA\n", NAME, &bad, &bad), line);
+        assert_eq!(second::normalise(b"GCA\n", NAME, &bad), line);
+        let of_list_2 = String::from_utf8(line).expect("ASCII").replace("\t1\t4", "\t2\t4");
+        assert_eq!(second::compare(b"GCA\n", NAME, &good, &bad), of_list_2.as_bytes());
+    }
 }
 
 /// A list of one record, which has this name.
@@ -54,7 +69,7 @@ fn the_name_given_is_what_chrom_has_to_be() {
         let table = b"list\tPOS\tcluster\tmark\n1\t2\t0\t+\n2\t4\t0\t+\ntotal\t2\t0\t0\t2\n";
         assert_eq!(printed(name), [&table[..], b"1\t0\t0\t1\t0\t0\n", &first]);
         for other in [&b""[..], b"chr", b"chr11", b"x", &longest[1..], &long] {
-            assert_eq!(printed(other), [b"refused\t7\t1\t3\n"; 3]);
+            assert_eq!(printed(other), [b"refused\t7\t1\t3\t0\n"; 3]);
         }
     }
     let empty = text(&[]);
@@ -95,20 +110,20 @@ fn the_binary_reads_the_files_of_a_directory() {
     assert_eq!(printed("compare", &all), table);
     assert_eq!(printed("normalise", &all).as_bytes(), first);
     assert_eq!(printed("counts", &all), "1\t0\t0\t1\t0\t0\n");
-    assert_eq!(printed("lot_report", &all), "refused\t3\t0\t0\n");
+    assert_eq!(printed("lot_report", &all), "refused\t3\t0\t0\t0\n");
     for program in ["compare", "counts", "normalise"] {
         assert_eq!(printed_for(program, &all, Some("chr1")), printed(program, &all));
         for name in ["", "chr2"] {
-            assert_eq!(printed_for(program, &all, Some(name)), "refused\t7\t1\t3\n");
+            assert_eq!(printed_for(program, &all, Some(name)), "refused\t7\t1\t3\t0\n");
         }
     }
     let no_second = directory("no-second", &files[..2]);
-    assert_eq!(printed("compare", &no_second), "refused\t3\t2\t0\n");
-    assert_eq!(printed("counts", &no_second), "refused\t3\t2\t0\n");
+    assert_eq!(printed("compare", &no_second), "refused\t3\t2\t0\t0\n");
+    assert_eq!(printed("counts", &no_second), "refused\t3\t2\t0\t0\n");
     let no_first = directory("no-first", &files[..1]);
-    assert_eq!(printed("normalise", &no_first), "refused\t3\t1\t0\n");
+    assert_eq!(printed("normalise", &no_first), "refused\t3\t1\t0\t0\n");
     let none = directory("none", &[]);
-    assert_eq!(printed("compare", &none), "refused\t1\t0\t0\n");
+    assert_eq!(printed("compare", &none), "refused\t1\t0\t0\t0\n");
     for directory in [all, no_second, no_first, none] {
         std::fs::remove_dir_all(directory).expect("removed");
     }

@@ -8,7 +8,7 @@ use common::refused::refusals;
 use second::{Cluster, Marked, Refusal};
 
 fn call(number: u32) -> Refusal {
-    Refusal { number, list: 0, line: 0 }
+    Refusal { number, list: 0, line: 0, place: 0 }
 }
 
 fn two_clusters() -> Case {
@@ -30,7 +30,7 @@ fn row_1_a_wrong_reference_refuses_every_call() {
 #[test]
 fn row_1_a_reference_file_ends_in_exactly_one_lf() {
     let (first, second) = (text(&[]), text(&[]));
-    let refused = b"refused\t1\t0\t0\n";
+    let refused = b"refused\t1\t0\t0\t0\n";
     for wrong in [&b""[..], b"\n", b"ACG", b"ACG\n\n", b"ACG\r\n", b"\nACG\n", b"ACG\nA"] {
         assert_eq!(second::compare(wrong, NAME, &first, &second), refused);
         assert_eq!(second::counts(wrong, NAME, &first, &second), refused);
@@ -149,7 +149,7 @@ fn row_18_no_such_entry_or_allele() {
 fn a_name_that_no_chrom_can_equal_refuses_the_first_record() {
     let one = text(&["2 C T 0/1"]);
     for name in [&b""[..], b"chr2", b"a\tb", b"chr1\n", b"\xff"] {
-        let refusal = Refusal { number: 7, list: 1, line: 3 };
+        let refusal = Refusal { number: 7, list: 1, line: 3, place: 0 };
         assert_eq!(normal(b"GCATATG", name, &one), Err(refusal));
         assert_eq!(second::allele(b"GCATATG", name, &one, 0, 0), Err(refusal));
         assert_eq!(normal(b"GCATATG", name, &text(&[])), Ok(text(&[])));

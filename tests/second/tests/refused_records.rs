@@ -1,4 +1,5 @@
-//! Rows 6 to 15: each wrong record line, alone and behind good ones, in list 1 and in list 2.
+//! Rows 6 to 15: each wrong record line, alone and behind good ones, in list 1 and in list 2. Rows 20 to 23, which are on ALT, stand in
+//! refused_alts.rs.
 
 mod common;
 
@@ -67,30 +68,6 @@ fn row_8_pos_is_decimal_from_1_to_65535() {
 fn row_9_ref_is_bases() {
     for wrong in ["c", "X", ".", "C,A", "CR", "*", "<DEL>", "C "] {
         assert_line_refused(&with_field(4, wrong), 9);
-    }
-}
-
-#[test]
-fn row_10_alt_is_one_or_two_other_alleles() {
-    for wrong in [
-        "t",
-        ".",
-        "*",
-        "<DEL>",
-        "T[chr1:3[",
-        "C",
-        "T,",
-        ",T",
-        ",",
-        "T,,G",
-        "T,T",
-        "T,C",
-        "C,T",
-        "T,G,A",
-        "T;G",
-        "T, G",
-    ] {
-        assert_line_refused(&with_field(5, wrong), 10);
     }
 }
 

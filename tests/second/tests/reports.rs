@@ -19,7 +19,7 @@ fn printed(runs: &[&str]) -> String {
 }
 
 fn refused(number: u32, line: u32) -> String {
-    format!("refused\t{number}\t0\t{line}\n")
+    format!("refused\t{number}\t0\t{line}\t0\n")
 }
 
 #[test]
@@ -155,12 +155,12 @@ fn drawn_files_come_upon_every_answer() {
         seen.note("one byte more", starts("refused\t3\t") && size == 65_537);
         seen.note("256 runs", starts("run\t") && lines == 258);
         seen.note("none for the lot", text.ends_with("none\n"));
-        seen.note("3", starts("refused\t3\t0\t0\n"));
-        seen.note("5", starts("refused\t5\t0\t1\n"));
-        seen.note("6", starts("refused\t6\t0\t"));
+        seen.note("3", starts("refused\t3\t0\t0\t0\n"));
+        seen.note("5", starts("refused\t5\t0\t1\t0\n"));
+        seen.note("6", starts("refused\t6\t0\t") && text.ends_with("\t0\n"));
         seen.note("6 behind line 257", starts("refused\t6\t0\t2") && lines == 1 && size > 3_000);
-        seen.note("30", starts("refused\t30\t0\t0\n"));
-        seen.note("31", starts("refused\t31\t0\t0\n"));
+        seen.note("30", starts("refused\t30\t0\t0\t0\n"));
+        seen.note("31", starts("refused\t31\t0\t0\t0\n"));
     }
     seen.assert_each(4);
 }

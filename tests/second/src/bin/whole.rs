@@ -2,6 +2,7 @@
 //! holds what it prints to what this package prints. PROGRAM is `compare`, `counts`, `normalise` or `lot_report`. With --named, which
 //! lot_report has not, the program is given names too: the one that the records have, others, an empty one, and one too long for any.
 
+use second::drive::at_allele::AT_ALLELES;
 use second::drive::draw::folders::{folder, named_folder, FILES};
 use second::drive::draw::names::Given;
 use second::drive::draw::runs::{self, runs_file};
@@ -23,11 +24,12 @@ const GIVEN: [&str; 6] = [
     "refused 7/1",
 ];
 
-/// A program by its name: its folder of a seed and number, the kind of something that it prints, and the kinds that are demanded.
+/// A program by its name: its folder of a seed and number, the kind of something that it prints, and the kinds that are demanded, of
+/// a program that reads lists among them each fault of an allele of ALT in each list.
 struct Program {
     draw: Box<dyn Fn(u64, u64) -> Folder>,
     kind: fn(&str) -> String,
-    demanded: &'static [&'static str],
+    demanded: Vec<String>,
 }
 
 fn main() -> ExitCode {
@@ -43,7 +45,11 @@ fn main() -> ExitCode {
     let folders = (0..count).map(|number| (program.draw)(seed, number));
     let held = hold(command, folders, program.kind);
     held.tell(&arguments[0], seed);
-    match held.is_good(program.demanded) {
+    let missing = held.missing(&program.demanded);
+    if !missing.is_empty() {
+        println!("whole: no folder came to: {}", missing.join(", "));
+    }
+    match held.is_good(&program.demanded) {
         true => ExitCode::SUCCESS,
         false => ExitCode::FAILURE,
     }
@@ -51,21 +57,31 @@ fn main() -> ExitCode {
 
 fn parsed(arguments: &[String], is_named: bool) -> Option<(Program, u64, u64, &[String])> {
     let [program, count, seed, command @ ..] = arguments else { return None };
-    let of_lists = |print, kind| {
+    let of_lists = |print, kind, lists| {
         let draw = Box::new(move |seed, number| of_two_lists(seed, number, is_named, print));
-        Program { draw, kind, demanded: if is_named { &GIVEN } else { &[] } }
+        let given: &[&str] = if is_named { &GIVEN } else { &[] };
+        let demanded = given.iter().map(ToString::to_string).chain(at_alleles(lists)).collect();
+        Program { draw, kind, demanded }
     };
     let program = match program.as_str() {
-        "compare" => of_lists(second::compare, of_table),
-        "counts" => of_lists(second::counts, of_counts),
-        "normalise" => of_lists(normalise, of_text),
+        "compare" => of_lists(second::compare, of_table, 2),
+        "counts" => of_lists(second::counts, of_counts, 2),
+        "normalise" => of_lists(normalise, of_text, 1),
         "lot_report" if !is_named => {
-            Program { draw: Box::new(reported), kind: of_report, demanded: &REFUSED_LOTS }
+            let demanded = REFUSED_LOTS.map(String::from).to_vec();
+            Program { draw: Box::new(reported), kind: of_report, demanded }
         }
         _ => return None,
     };
     let (count, seed) = (count.parse().ok()?, seed.parse().ok()?);
     (!command.is_empty()).then_some((program, count, seed, command))
+}
+
+/// The rows on ALT at each allele, in each of so many lists.
+fn at_alleles(lists: usize) -> impl Iterator<Item = String> {
+    let of_a_list =
+        |list| AT_ALLELES.map(move |(number, allele)| format!("refused {number}/{list} {allele}"));
+    (1..=lists).flat_map(of_a_list)
 }
 
 /// What a program prints for the bytes of its reference, its name, and those of its lists.

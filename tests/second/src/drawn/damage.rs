@@ -64,13 +64,39 @@ fn change_a_field(random: &mut Random, text: &mut Vec<u8>) {
     let line = random.below(lines.len()).max(random.below(lines.len()));
     let line = line.min(lines.len().saturating_sub(2));
     let mut fields: Vec<&[u8]> = lines[line].split(|byte| *byte == b'\t').collect();
-    let field = random.below(fields.len());
+    // ALT has the most ways to be wrong.
+    let any = random.below(fields.len());
+    let field = if random.once_in(4) { 4.min(fields.len() - 1) } else { any };
     let (long, longer) = ([b'A'; 64], [b'C'; 65]);
+    let (first_long, second_long) =
+        ([&longer[..], b",c"].concat(), [&b"TC,"[..], &longer].concat());
+    let replaced = fields.get(3).map_or(&b""[..], |field| field);
+    let second_replaced = [b"TC,", replaced].concat();
     fields[field] = match field {
         0 => *random.pick(&[&b"chr1"[..], b"chr2", b"chr", b"##", b"#CHROM"]),
         1 => *random.pick(&[&b"1"[..], b"2", b"3", b"0", b"01", b"65535", b"65536", b"+1", b""]),
         3 => *random.pick(&[&b"A"[..], b"C", b"N", b"AA", b"a", &long, &longer]),
-        4 => *random.pick(&[&b"A"[..], b"C", b"A,C", b"A,A", b"A,", b"A,C,G", &long, &longer]),
+        4 => *random.pick(&[
+            &b"A"[..],
+            b"C",
+            b"A,C",
+            b"A,A",
+            b"TC,TC",
+            b"A,",
+            b"TC,",
+            b",A",
+            b"c,",
+            b"A,c",
+            b"TC,A*",
+            b"A,C,G",
+            &long,
+            &longer,
+            &first_long,
+            &second_long,
+            replaced,
+            &second_replaced,
+            &second_replaced,
+        ]),
         8 => *random.pick(&[&b"GT"[..], b"GT:", b"GT:DP", b"GTX", b"DP:GT"]),
         9 => *random.pick(&[&b"0/0"[..], b"0|0:1", b"1|1", b"2/1", b"0/3", b"1", b"1/1/1", b"./."]),
         _ => *random.pick(&[&b"."[..], b"", b"\xff\r"]),

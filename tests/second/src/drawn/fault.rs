@@ -1,11 +1,12 @@
 //! A fault of a chosen row, near the border between what the row refuses and what it leaves. Some
 //! of the values are right after all, or are a fault of another row: the table decides.
 
+use super::false_alts::false_alts;
 use super::list::{fill_line, Drawn, Fields, ALT, CHROM, FORMAT, LINE_MOST, POS, REF, SAMPLE};
 use super::random::Random;
 
-/// The rows that `fault` breaks on a line.
-pub const ROWS: [u32; 11] = [4, 5, 6, 7, 8, 9, 10, 11, 12, 13, 14];
+/// The rows that `fault` breaks on a line; twice those that it breaks at either allele.
+pub const ROWS: [u32; 17] = [4, 5, 6, 7, 8, 9, 20, 20, 21, 21, 22, 22, 23, 11, 12, 13, 14];
 
 const FALSE_POS: [&[u8]; 14] = [
     b"0",
@@ -79,7 +80,10 @@ fn record_fault(random: &mut Random, fields: &mut Fields, reference: usize, row:
         7 => name_fault(random, &mut fields[CHROM]),
         8 => fields[POS] = random.pick(&FALSE_POS).to_vec(),
         9 => fields[REF] = false_allele(random),
-        10 => fields[ALT] = false_alts(random, &fields[REF]),
+        20..=23 => {
+            let is_second = random.once_in(2);
+            fields[ALT] = false_alts(random, &fields[REF], row, is_second);
+        }
         11 if random.once_in(2) => fields[FORMAT] = random.pick(&FALSE_FORMAT).to_vec(),
         11 => fields[SAMPLE] = random.pick(&FALSE_GENOTYPE).to_vec(),
         12 => fields[SAMPLE] = random.pick(&ZERO_GENOTYPE).to_vec(),
@@ -119,20 +123,6 @@ fn false_allele(random: &mut Random) -> Vec<u8> {
     match random.once_in(3) {
         true => vec![*random.pick(b"ACGTN"); 65],
         false => random.pick(&FALSE_ALLELE).to_vec(),
-    }
-}
-
-fn false_alts(random: &mut Random, reference: &[u8]) -> Vec<u8> {
-    let wrong = false_allele(random);
-    match random.below(8) {
-        0 => wrong,
-        1 => [&b"A,"[..], &wrong].concat(),
-        2 => [&wrong[..], b",A"].concat(),
-        3 => reference.to_vec(),
-        4 => [b"ACGTN,", reference].concat(),
-        5 => b"AC,AC".to_vec(),
-        6 => b"AC,GT,TT".to_vec(),
-        _ => random.pick(&[&b","[..], b"A,", b",A", b"A,,C"]).to_vec(),
     }
 }
 

@@ -5,10 +5,11 @@
 //! - `repeats` draws repeats and entries in them, `large` clusters with long alleles and on long stretches
 //! - `list` draws one list in all its variety, `sizes` one of the sizes where the rules change, `pairs`
 //!   two lists on one reference
-//! - `fault` breaks a chosen row of the table in such a list, `damage` breaks any text anywhere, `mutate`
-//!   changes bytes of anything
+//! - `fault` breaks a chosen row of the table in such a list, with `false_alts` for those on ALT, `damage` breaks
+//!   any text anywhere, `mutate` changes bytes of anything
 
 pub mod damage;
+pub mod false_alts;
 pub mod fault;
 pub mod large;
 pub mod list;

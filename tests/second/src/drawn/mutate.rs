@@ -1,5 +1,5 @@
-//! Changes by bytes, to anything that is lent. They know lines and bytes that mean something, and no
-//! other rule.
+//! Changes by bytes, to anything that is lent. They know lines, cells of lines and bytes that mean something,
+//! and no other rule.
 
 use super::random::Random;
 use std::ops::Range;
@@ -25,7 +25,7 @@ pub fn mutate(random: &mut Random, bytes: &mut Vec<u8>, other: &[u8]) {
     let place = any_place(random, bytes);
     let part = part(random, bytes);
     let piece = *random.pick(&PIECES);
-    match random.below(32) {
+    match random.below(40) {
         0..=2 => bytes[place] ^= 1 << random.below(8),
         3..=8 => bytes[place] = telling,
         9..=13 => change_a_digit(random, bytes, place),
@@ -35,6 +35,7 @@ pub fn mutate(random: &mut Random, bytes: &mut Vec<u8>, other: &[u8]) {
         22..=25 => repeat(random, bytes, part),
         26 | 27 => put(random, bytes, place, piece),
         28..=30 => put_part_of(random, bytes, part.start, other),
+        31..=38 => change_a_cell(random, bytes, place),
         _ => bytes.truncate(part.start),
     }
     bytes.truncate(LENGTH_MOST);
@@ -92,6 +93,39 @@ fn put(random: &mut Random, bytes: &mut Vec<u8>, place: usize, piece: &[u8]) {
     let replaced = if random.once_in(2) { piece.len() } else { 0 };
     let end = bytes.len().min(place + replaced);
     bytes.splice(place..end, piece.iter().copied());
+}
+
+/// A cell of the line at the place, which a TAB or a comma ends, comes in the place of one of the next two, or behind it or itself with a
+/// comma between; or a comma alone stands before or behind it; or it becomes 64 bytes long, or one more.
+fn change_a_cell(random: &mut Random, bytes: &mut Vec<u8>, place: usize) {
+    let cells = cells(bytes, place);
+    let number = random.below(cells.len());
+    let next = cells[(cells.len() - 1).min(number + random.between(1, 2))].clone();
+    let Range { start, end } = cells[number];
+    let cell = bytes[start..end].to_vec();
+    let with_comma = [b",", &cell[..]].concat();
+    let long = cell.iter().copied().cycle().take(random.between(64, 65)).collect();
+    let (range, put) = match random.below(9) {
+        0 | 1 => (next, cell),
+        2 | 3 => (next.end..next.end, with_comma),
+        4 | 5 => (end..end, with_comma),
+        6 => (start..start, b",".to_vec()),
+        7 => (end..end, b",".to_vec()),
+        _ => (start..end, long),
+    };
+    bytes.splice(range, put);
+}
+
+/// The cells of the line at the place.
+fn cells(bytes: &[u8], place: usize) -> Vec<Range<usize>> {
+    let mut start = bytes[..place].iter().rposition(is_end).map_or(0, |end| end + 1);
+    let line = bytes[start..].split(is_end).next().unwrap_or_default();
+    let cell = |cell: &[u8]| {
+        let range = start..start + cell.len();
+        start = range.end + 1;
+        range
+    };
+    line.split(|byte| b"\t,".contains(byte)).map(cell).collect()
 }
 
 fn put_part_of(random: &mut Random, bytes: &mut Vec<u8>, place: usize, other: &[u8]) {

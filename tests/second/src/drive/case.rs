@@ -44,11 +44,27 @@ pub struct Answer {
     pub number: u32,
     pub list: u32,
     pub line: u32,
+    pub place: u32,
     pub values: Vec<u32>,
 }
 
 /// A lent buffer with its name.
 type Lent = (&'static str, Vec<u8>);
+
+impl Call {
+    /// The text of list 1 or of list 2.
+    pub fn text(&self, list: u32) -> &[u8] {
+        match self {
+            Call::Allele { text, .. } | Call::Normal { text, .. } => text,
+            Call::Plan { texts, .. }
+            | Call::Mark { texts, .. }
+            | Call::Count { texts, .. }
+            | Call::MarkAll { texts, .. }
+            | Call::Entries { texts, .. } => &texts[list as usize - 1],
+            Call::Version => &[],
+        }
+    }
+}
 
 impl Case {
     pub fn new(reference: &[u8], name: &[u8], call: Call) -> Case {

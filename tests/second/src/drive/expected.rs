@@ -58,13 +58,13 @@ impl Answer {
     }
 
     fn given(values: Vec<u32>) -> Answer {
-        Answer { number: 0, list: 0, line: 0, values }
+        Answer { number: 0, list: 0, line: 0, place: 0, values }
     }
 
     /// Each of so many values is 0.
     fn refused(refusal: Refusal, values: usize) -> Answer {
-        let Refusal { number, list, line } = refusal;
-        Answer { number, list, line, values: vec![0; values] }
+        let Refusal { number, list, line, place } = refusal;
+        Answer { number, list, line, place, values: vec![0; values] }
     }
 
     /// Those of list 1 first.
@@ -79,6 +79,6 @@ impl Answer {
             Shown::Reference { start, length } => (0, start, length),
             Shown::Text { start, length } => (1, start, length),
         };
-        Answer { number: 0, list, line: start as u32, values: vec![length as u32] }
+        Answer { number: 0, list, line: start as u32, place: 0, values: vec![length as u32] }
     }
 }

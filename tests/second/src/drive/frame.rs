@@ -59,9 +59,9 @@ pub fn read_told(output: &mut impl Read, expected: &Told) -> Option<Told> {
         let mut bytes = [0; 4];
         output.read_exact(&mut bytes).ok().map(|()| u32::from_le_bytes(bytes))
     };
-    let [row, list, line] = [number()?, number()?, number()?];
+    let [row, list, line, place] = [number()?, number()?, number()?, number()?];
     let values = expected.answer.values.iter().map(|_| number()).collect::<Option<Vec<u32>>>()?;
-    let answer = Answer { number: row, list, line, values };
+    let answer = Answer { number: row, list, line, place, values };
     let mut bytes = |count| {
         let mut bytes = vec![0; count];
         output.read_exact(&mut bytes).ok().map(|()| bytes)

@@ -6,9 +6,12 @@
 //! - `draw` draws case after case from a seed
 //! - `frame` is what is sent to the driver for a case, and what it tells
 //! - `pipe` sends the cases to the driver and takes its answers
-//! - `kind` says what kind of answer a case has, `large` which clusters are large
+//! - `kind` says what kind of answer a case has, with `answered` and `large` for what was done, and `at_allele` for the
+//!   allele that a refusal is told at
 //! - `tally` counts the kinds that were answered and keeps the smallest differences
 
+mod answered;
+pub mod at_allele;
 pub mod case;
 pub mod draw;
 mod expected;

@@ -69,7 +69,11 @@ impl Display for Tally {
         }
         let kinds: Vec<String> =
             self.kinds.iter().map(|(kind, count)| format!("{kind} {count}")).collect();
-        writeln!(out, "answers by call, and by number/list where refused: {}", kinds.join(", "))
+        let kinds = kinds.join(", ");
+        writeln!(
+            out,
+            "answers by call, and by number/list and allele of ALT where refused: {kinds}"
+        )
     }
 }
 

@@ -34,17 +34,22 @@ fn refusals_of_pair(reference: &[u8], first: &[u8], second: &[u8]) -> Vec<Refusa
 }
 
 fn refused_line(refusal: Refusal) -> Vec<u8> {
-    let Refusal { number, list, line } = refusal;
-    format!("refused\t{number}\t{list}\t{line}\n").into_bytes()
+    let Refusal { number, list, line, place } = refusal;
+    format!("refused\t{number}\t{list}\t{line}\t{place}\n").into_bytes()
 }
 
-/// Every call refuses `text` with this number and line, as list 1 and as list 2.
+/// Every call refuses `text` with this number and line, as list 1 and as list 2, and with place 0.
 pub fn assert_refused(reference: &str, text: &[u8], number: u32, line: u32) {
+    assert_refused_at(reference, text, number, line, 0);
+}
+
+/// The same with this place.
+pub fn assert_refused_at(reference: &str, text: &[u8], number: u32, line: u32, place: u32) {
     let (as_first, as_second) = refusals(reference.as_bytes(), text, &text_with(&[]));
     for (list, found) in [(1, as_first), (2, as_second)] {
         let read = second::read(reference.as_bytes(), NAME, list, text).expect_err("read");
         for refusal in found.into_iter().chain([read]) {
-            assert_eq!(refusal, Refusal { number, list, line });
+            assert_eq!(refusal, Refusal { number, list, line, place });
         }
     }
 }

@@ -1,11 +1,33 @@
-//! The rows of document 01 that can hold in a list text, each said as a predicate.
+//! The rows of document 01 and of request a that can hold in a list text, each said as a predicate.
 //!
 //! Written apart from the reader: nothing here is told what the reader found or how it goes about it.
 
 use super::lists::{COLUMN_LINE, VERSION_LINE};
 
+/// A row, and the number of the allele of ALT that it is about, 1 or 2; 0 where it is about none.
+pub type Row = (u32, usize);
+
 /// The rows that can hold on a line, in the order they are tried.
-pub const ON_A_LINE: [u32; 12] = [4, 5, 15, 6, 7, 8, 9, 10, 11, 12, 13, 14];
+pub const ON_A_LINE: [Row; 18] = [
+    (4, 0),
+    (5, 0),
+    (15, 0),
+    (6, 0),
+    (7, 0),
+    (8, 0),
+    (9, 0),
+    (20, 1),
+    (21, 1),
+    (22, 1),
+    (20, 2),
+    (21, 2),
+    (22, 2),
+    (23, 2),
+    (11, 0),
+    (12, 0),
+    (13, 0),
+    (14, 0),
+];
 
 pub fn row_3_holds(text: &[u8]) -> bool {
     text.len() > 65_536 || !text.ends_with(b"\n")
@@ -30,7 +52,7 @@ impl<'a> Lines<'a> {
 
     /// Whether `row` holds on line `number`, from 1, if no row holds on an earlier line and no row
     /// that is tried before holds on this.
-    pub fn holds(&self, row: u32, number: usize) -> bool {
+    pub fn holds(&self, (row, allele): Row, number: usize) -> bool {
         let column = self.lines.iter().position(|line| !line.starts_with(b"##"));
         let column = column.map_or(self.count() + 1, |index| index + 1);
         let Some(line) = self.lines.get(number - 1) else {
@@ -45,8 +67,20 @@ impl<'a> Lines<'a> {
             _ if number <= column => false,
             15 => number - column > 512,
             14 => number - column > 1 && self.pos(number) < self.pos(number - 1),
+            20..=23 => alt_row_holds(row, allele, line),
             _ => self.record_row_holds(row, line),
         }
+    }
+
+    /// The byte of line `number` where the row's allele begins: so many stand before it. 0 where it is about none.
+    pub fn place(&self, (_, allele): Row, number: usize) -> u32 {
+        if allele == 0 {
+            return 0;
+        }
+        let fields = fields(self.lines[number - 1]);
+        let before: Vec<&[u8]> =
+            fields[..4].iter().chain(&alleles(fields[4])[..allele - 1]).copied().collect();
+        before.concat().len() as u32 + before.len() as u32
     }
 
     fn pos(&self, number: usize) -> Option<usize> {
@@ -59,23 +93,14 @@ impl<'a> Lines<'a> {
             return fields.len() != 10 || fields.contains(&&b""[..]);
         }
         let (reference, format, sample) = (fields[3], fields[8], fields[9]);
-        let alts: Vec<&[u8]> = fields[4].split(|byte| *byte == b',').collect();
+        let alts = alleles(fields[4]).len();
         let until_colon = sample.split(|byte| *byte == b':').next().unwrap_or_default();
         match row {
             7 => fields[0] != self.name,
             8 => pos(fields[1]).is_none(),
             9 => !is_allele(reference),
-            10 => {
-                let mut different = vec![reference];
-                different.extend(&alts);
-                different.sort();
-                different.dedup();
-                alts.len() > 2
-                    || different.len() != alts.len() + 1
-                    || !alts.iter().all(|alt| is_allele(alt))
-            }
             11 => {
-                let known = &b"012"[..=alts.len()];
+                let known = &b"012"[..=alts];
                 let genotypes = known.iter().flat_map(|left| {
                     known
                         .iter()
@@ -91,6 +116,24 @@ impl<'a> Lines<'a> {
             }
         }
     }
+}
+
+/// Rows 20 to 23 about allele 1 or 2, if there is such an allele.
+fn alt_row_holds(row: u32, allele: usize, line: &[u8]) -> bool {
+    let fields = fields(line);
+    let alleles = alleles(fields[4]);
+    let Some(bytes) = alleles.get(allele - 1) else { return false };
+    match row {
+        20 => !(1..65).contains(&bytes.len()),
+        21 => bytes.iter().any(|byte| !b"ACGTN".contains(byte)),
+        22 => *bytes == fields[3],
+        _ => *bytes == alleles[0],
+    }
+}
+
+/// All of ALT, or what stands before its first comma and what stands behind that.
+fn alleles(alt: &[u8]) -> Vec<&[u8]> {
+    alt.splitn(2, |byte| *byte == b',').collect()
 }
 
 fn fields(line: &[u8]) -> Vec<&[u8]> {
