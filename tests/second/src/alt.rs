@@ -2,9 +2,9 @@
 //!
 //! The whole of the first allele comes before the second, and each is told at the byte of the line, from 0, where it begins.
 
+use crate::bases::{is_base, same};
 use crate::part::{Part, COMMA};
 use crate::record::ALLELE_MOST;
-use crate::reference::is_base;
 use crate::refusal::*;
 
 /// The one or two alleles of the field `alt` of `line`, or the first row that holds on it. `replaced` is REF.
@@ -15,7 +15,7 @@ pub fn read(text: &[u8], line: Part, alt: Part, replaced: &[u8]) -> Result<Vec<P
     judge(first.of(text), replaced).map_err(|row| at(first, row))?;
     let Some(second) = second else { return Ok(vec![first]) };
     judge(second.of(text), replaced).map_err(|row| at(second, row))?;
-    if second.of(text) == first.of(text) {
+    if same(second.of(text), first.of(text)) {
         return Err(at(second, EQUAL_ALTS));
     }
     Ok(vec![first, second])
@@ -29,7 +29,7 @@ fn judge(allele: &[u8], replaced: &[u8]) -> Result<(), u32> {
     if !allele.iter().all(|&byte| is_base(byte)) {
         return Err(WRONG_BYTE);
     }
-    if allele == replaced {
+    if same(allele, replaced) {
         return Err(ALT_IS_REF);
     }
     Ok(())

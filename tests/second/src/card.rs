@@ -1,6 +1,6 @@
-//! The card's calls. Each judges in document 01's order: 1; 2; list 1; list 2; 17; 16; 18.
+//! The card's calls, but for `allele` and `entries`. Each judges in document 01's order: 1; 2; list 1; list 2; 17; 16; 18.
 //!
-//! A refused call writes nothing; all writing stands behind the last judgement.
+//! A refused call writes nothing; all writing stands behind the last judgement. `reference` is as it was lent, `bases` are folded.
 
 use crate::best_pruned::best_pruned;
 use crate::choice::Choice;
@@ -25,23 +25,6 @@ pub enum Marked {
     Undecided,
 }
 
-/// An allele, shown as a part of the reference or of the list's text.
-#[derive(Clone, Copy, Debug, PartialEq, Eq)]
-pub enum Shown {
-    Reference { start: usize, length: usize },
-    Text { start: usize, length: usize },
-}
-
-impl Shown {
-    /// The bytes shown, where `reference` and `text` are those of the call.
-    pub fn bytes<'a>(self, reference: &'a [u8], text: &'a [u8]) -> &'a [u8] {
-        match self {
-            Shown::Reference { start, length } => &reference[start..start + length],
-            Shown::Text { start, length } => &text[start..start + length],
-        }
-    }
-}
-
 /// Writes one record a cluster to the plan's first records and returns their number.
 /// The plan's records behind them are unchanged.
 pub fn plan(
@@ -51,10 +34,10 @@ pub fn plan(
     second: &[u8],
     plan: &mut [Cluster],
 ) -> Result<u32, Refusal> {
-    reference::judge(reference)?;
+    let bases = reference::read(reference)?;
     judge_room(plan.len(), ENTRIES_MOST)?;
     let both = read_both(reference, name, first, second)?;
-    let clusters = clusters(reference, both.each_ref().map(Vec::as_slice));
+    let clusters = clusters(&bases, both.each_ref().map(Vec::as_slice));
     plan[..clusters.len()].copy_from_slice(&clusters);
     Ok(clusters.len() as u32)
 }
@@ -70,17 +53,17 @@ pub fn mark(
     cluster: usize,
     marks: &mut [u8],
 ) -> Result<Marked, Refusal> {
-    reference::judge(reference)?;
+    let bases = reference::read(reference)?;
     judge_room(plan.len(), ENTRIES_MOST)?;
     judge_room(marks.len(), ENTRIES_MOST)?;
     let both = read_both(reference, name, first, second)?;
     let lists = both.each_ref().map(Vec::as_slice);
-    let clusters = clusters(reference, lists);
+    let clusters = clusters(&bases, lists);
     if plan[..clusters.len()] != clusters {
         return Err(Refusal::of_call(NOT_THE_PLAN));
     }
     let asked = clusters.get(cluster).ok_or(Refusal::of_call(NO_CLUSTER))?;
-    Ok(mark_cluster(reference, lists, &merged(lists), *asked, marks))
+    Ok(mark_cluster(&bases, lists, &merged(lists), *asked, marks))
 }
 
 /// Leaves what `plan`, and then `mark` of each cluster, leave. Returns the number of clusters and
@@ -93,17 +76,17 @@ pub fn mark_all(
     plan: &mut [Cluster],
     marks: &mut [u8],
 ) -> Result<(u32, u32), Refusal> {
-    reference::judge(reference)?;
+    let bases = reference::read(reference)?;
     judge_room(plan.len(), ENTRIES_MOST)?;
     judge_room(marks.len(), ENTRIES_MOST)?;
     let both = read_both(reference, name, first, second)?;
     let lists = both.each_ref().map(Vec::as_slice);
-    let clusters = clusters(reference, lists);
+    let clusters = clusters(&bases, lists);
     let items = merged(lists);
     plan[..clusters.len()].copy_from_slice(&clusters);
     let mut total = 0;
     for &cluster in &clusters {
-        if let Marked::Score(score) = mark_cluster(reference, lists, &items, cluster, marks) {
+        if let Marked::Score(score) = mark_cluster(&bases, lists, &items, cluster, marks) {
             total += score;
         }
     }
@@ -118,7 +101,7 @@ pub fn count(
     second: &[u8],
     marks: &[u8],
 ) -> Result<[Counts; 2], Refusal> {
-    reference::judge(reference)?;
+    reference::read(reference)?;
     judge_room(marks.len(), ENTRIES_MOST)?;
     let both = read_both(reference, name, first, second)?;
     let items = merged(both.each_ref().map(Vec::as_slice));
@@ -134,33 +117,12 @@ pub fn normal(
     text: &[u8],
     room: &mut [u8],
 ) -> Result<usize, Refusal> {
-    reference::judge(reference)?;
+    let bases = reference::read(reference)?;
     judge_room(room.len(), text.len())?;
     let list = list::read(reference, name, 1, text)?;
-    let written = written(reference, text, &list);
+    let written = written(&bases, text, &list);
     room[..written.len()].copy_from_slice(&written);
     Ok(written.len())
-}
-
-/// Shows allele number `allele` of entry number `entry`: 0 in the reference, 1 or 2 in the text.
-pub fn allele(
-    reference: &[u8],
-    name: &[u8],
-    text: &[u8],
-    entry: usize,
-    allele: usize,
-) -> Result<Shown, Refusal> {
-    reference::judge(reference)?;
-    let list = list::read(reference, name, 1, text)?;
-    let no_allele = Refusal::of_call(NO_ALLELE);
-    let record = list.records.get(entry).ok_or(no_allele)?;
-    if allele == 0 {
-        let (start, length) = (record.entry.start(), record.entry.reference.len());
-        return Ok(Shown::Reference { start, length });
-    }
-    let part = record.alts.get(allele - 1).ok_or(no_allele)?;
-    let (start, length) = (part.start, part.length);
-    Ok(Shown::Text { start, length })
 }
 
 /// Row 2: the lent room is below what the call needs.
@@ -185,7 +147,7 @@ pub(crate) fn read_both(
 
 /// Writes the marks of one cluster, and no other.
 fn mark_cluster(
-    reference: &[u8],
+    bases: &[u8],
     lists: Lists,
     items: &[Item],
     cluster: Cluster,
@@ -197,7 +159,7 @@ fn mark_cluster(
         marks.fill(UNDECIDED);
         return Marked::Undecided;
     }
-    let best = best_pruned(reference, lists_of(lists, items, cluster));
+    let best = best_pruned(bases, lists_of(lists, items, cluster));
     for (mark, choice) in marks.iter_mut().zip(best.choices) {
         *mark = Choice::mark(choice);
     }

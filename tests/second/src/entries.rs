@@ -27,10 +27,10 @@ pub fn entries(
     second: &[u8],
     entries: &mut [Listed],
 ) -> Result<u32, Refusal> {
-    reference::judge(reference)?;
+    let bases = reference::read(reference)?;
     judge_room(entries.len(), ENTRIES_MOST)?;
     let both = read_both(reference, name, first, second)?;
-    let plan = clusters(reference, both.each_ref().map(Vec::as_slice));
+    let plan = clusters(&bases, both.each_ref().map(Vec::as_slice));
     let listed = listed([first, second], &plan);
     entries[..listed.len()].copy_from_slice(&listed);
     Ok(listed.len() as u32)

@@ -1,4 +1,4 @@
-//! An entry is its POS, REF, ALTs and the ordered pair of copy alleles.
+//! An entry is its POS, REF, ALTs and the ordered pair of copy alleles. All its bases are folded.
 
 #[derive(Clone, Debug, PartialEq, Eq)]
 pub struct Entry {

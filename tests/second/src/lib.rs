@@ -1,14 +1,14 @@
-//! The comparison card, written a second time from document 01, requests a and d and include/card.h alone.
+//! The comparison card, written a second time from document 01, requests a, b and d and include/card.h alone.
 //!
 //! It exists to be compared with: each rule stands once, in document 01's words, and the two places
 //! that matter most, the best pair and the normal form, stand twice, by definition and by a search
 //! that is quick. The tests hold the two ways against each other.
 //!
-//! - the calls: `card` (plan, mark, mark_all, count, normal, allele), `entries` (where each entry stands), `lot`
+//! - the calls: `card` (plan, mark, mark_all, count, normal), `allele`, `entries` (where each entry stands), `lot`
 //!   (recall for a reagent lot)
 //! - what the programs print: `programs` (compare, normalise, counts, lot_report), `report` (the table of a lot)
 //! - what is turned away: `refusal`
-//! - reading: `reference`, `part`, `entry`, `alt`, `record`, `list`
+//! - reading: `bases` (which bytes are equal), `reference`, `part`, `entry`, `alt`, `record`, `list`
 //! - the normal form: `normal_form` (definition), `normal_loop` (shift and trim), `written` (the text)
 //! - matching: `choice`, `donor`, `merged`, `best` (every pair of choices), `best_pruned`
 //! - clusters: `gap` (where to cut), `clusters`, `counts` (what marks count)
@@ -19,7 +19,9 @@
 
 #![forbid(unsafe_code)]
 
+pub mod allele;
 pub mod alt;
+pub mod bases;
 pub mod best;
 pub mod best_pruned;
 pub mod card;
@@ -46,7 +48,8 @@ pub mod report;
 pub mod whole;
 pub mod written;
 
-pub use card::{allele, count, mark, mark_all, normal, plan, Marked, Shown};
+pub use allele::{allele, Shown};
+pub use card::{count, mark, mark_all, normal, plan, Marked};
 pub use clusters::Cluster;
 pub use counts::Counts;
 pub use entries::{entries, Listed};

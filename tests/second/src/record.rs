@@ -3,15 +3,16 @@
 //! ID, QUAL, FILTER and INFO are carried: nothing here looks at them but for being there.
 
 use crate::alt;
+use crate::bases::{folded, is_base, same};
 use crate::entry::Entry;
 use crate::part::{Part, COLON, TAB};
-use crate::reference::{is_base, REFERENCE_MOST};
+use crate::reference::REFERENCE_MOST;
 use crate::refusal::*;
 
 const FIELDS: usize = 10;
 pub const ALLELE_MOST: usize = 64;
 
-/// An entry, and the parts of the text that hold it.
+/// An entry, and the parts of the text that hold it, as they were lent.
 #[derive(Clone, Debug, PartialEq, Eq)]
 pub struct Record {
     pub entry: Entry,
@@ -42,13 +43,14 @@ pub fn read(reference: &[u8], name: &[u8], text: &[u8], line: Part) -> Result<Re
     if copies == [0, 0] {
         return Err(GENOTYPE_ZERO.into());
     }
-    if !reference[(position - 1).min(reference.len())..].starts_with(replaced) {
+    let there = reference.get(position - 1..position - 1 + replaced.len());
+    if !there.is_some_and(|there| same(there, replaced)) {
         return Err(NOT_THE_REFERENCE.into());
     }
     let entry = Entry {
         pos: position,
-        reference: replaced.to_vec(),
-        alts: alts.iter().map(|part| part.of(text).to_vec()).collect(),
+        reference: folded(replaced),
+        alts: alts.iter().map(|part| folded(part.of(text))).collect(),
         copies,
     };
     Ok(Record { entry, line, pos, reference: reference_field, alts })
@@ -71,7 +73,7 @@ fn position(field: &[u8]) -> Option<usize> {
     (1..=REFERENCE_MOST).contains(&value).then_some(value)
 }
 
-/// 1 to 64 of A, C, G, T, N.
+/// 1 to 64 bases.
 fn is_allele(bytes: &[u8]) -> bool {
     (1..=ALLELE_MOST).contains(&bytes.len()) && bytes.iter().all(|&byte| is_base(byte))
 }

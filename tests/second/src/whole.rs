@@ -2,6 +2,8 @@
 
 use crate::drive::at_allele::at_allele;
 use crate::drive::draw::names::Given;
+use crate::drive::lower_case::has_lower;
+use crate::part::{LF, TAB};
 use std::collections::BTreeMap;
 use std::ffi::OsStr;
 use std::os::unix::ffi::OsStrExt;
@@ -10,6 +12,10 @@ use std::process::{Command, Stdio};
 
 /// One in so many folders, at least, is to be accepted, and one in so many refused.
 const ONCE_IN: u64 = 10;
+
+/// What of a folder with lists is in lower case.
+pub const LOWER: [&str; 3] =
+    ["upper case alone", "lower case in the reference", "lower case in list 1"];
 
 /// A file's name and its bytes.
 type File = (&'static str, Option<Vec<u8>>);
@@ -31,7 +37,8 @@ pub struct Held {
     differences: u64,
     /// How often each kind was to be printed: `refused`, number, list and allele of ALT, or what is told of an accepted folder.
     kinds: BTreeMap<String, u64>,
-    /// How often each kind of name was given, to be answered and to be refused.
+    /// How often each kind of name was given, to be answered and to be refused; and of folders with lists that were to be answered, what
+    /// of the reference and of list 1 was in lower case.
     given: BTreeMap<String, u64>,
 }
 
@@ -78,6 +85,9 @@ impl Held {
             Some(refusal) => (refusal, "refused"),
             None => {
                 self.accepted += 1;
+                for lower in lower_case(files) {
+                    *self.given.entry(format!("{lower} answered")).or_default() += 1;
+                }
                 (kind(expected), "answered")
             }
         };
@@ -107,12 +117,25 @@ impl Held {
             counted(&self.kinds)
         );
         if !self.given.is_empty() {
-            println!("given: {}", counted(&self.given));
+            println!("names given, and lower case: {}", counted(&self.given));
         }
         let Held { folders, accepted, differences, .. } = self;
         println!(
             "whole: {folders} folders for {program}, seed {seed}, {accepted} accepted, {differences} differences"
         );
+    }
+}
+
+/// What of the reference and of list 1 is in lower case, where the folder has lists.
+fn lower_case(files: &[File]) -> Vec<&'static str> {
+    let bytes = |number: usize| files.get(number).and_then(|(_, bytes)| bytes.as_deref());
+    let (Some(reference), Some(list)) = (bytes(0), bytes(1)) else { return Vec::new() };
+    let records = list.split(|byte| *byte == LF).filter(|line| !line.starts_with(b"#"));
+    let alleles = records.flat_map(|line| line.split(|byte| *byte == TAB).skip(3).take(2));
+    let found = [(LOWER[1], has_lower(reference)), (LOWER[2], alleles.into_iter().any(has_lower))];
+    match found {
+        [(_, false), (_, false)] => vec![LOWER[0]],
+        _ => found.into_iter().filter(|(_, is_so)| *is_so).map(|(what, _)| what).collect(),
     }
 }
 

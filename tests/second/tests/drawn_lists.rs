@@ -10,7 +10,7 @@ use second::drawn::sizes::{sized_list, sized_reference, sized_text};
 use second::drive::case::{Answer, Call, Case};
 use second::drive::draw::{draw, Asked, CALLS};
 use second::drive::frame::Frames;
-use second::drive::kind::{kinds, Kind};
+use second::drive::kind::{kinds, kinds_beside, Kind};
 use second::drive::tally::Tally;
 use second::{Cluster, Refusal};
 use std::collections::BTreeSet;
@@ -34,7 +34,7 @@ fn sizes_are_met_and_one_too_many_refused() {
         let mut random = Random::new(seed);
         let list = sized_reference(&mut random);
         let reference = &list.reference;
-        let judged = second::reference::judge(reference).is_ok();
+        let judged = second::reference::read(reference).is_ok();
         assert_eq!(judged, (1..=65_535).contains(&reference.len()));
 
         let list = sized_list(&mut random);
@@ -99,8 +99,13 @@ fn every_answer_occurs_and_no_other_counts_as_the_same() {
 
 #[test]
 fn changes_by_bytes_come_upon_every_answer_of_every_call_and_no_other() {
-    let seen: BTreeSet<Kind> = cases(Asked::Mutated, 100_000).map(|case| Kind::of(&case)).collect();
+    let (mut seen, mut beside) = (BTreeSet::new(), BTreeSet::new());
+    for case in cases(Asked::Mutated, 100_000) {
+        seen.insert(Kind::of(&case));
+        beside.extend(Kind::beside(&case));
+    }
     assert_eq!(seen, kinds(Asked::Mutated).into_iter().collect());
+    assert_eq!(beside, kinds_beside(Asked::Mutated).into_iter().collect());
 }
 
 #[test]

@@ -80,7 +80,7 @@ fn refused_in_the_order_of_the_rows_and_nothing_written() {
     let (good, bad) = (text(&["2 C T 0/1"]), text(&["2 C T 0/1", "2 C T 0/0"]));
     let refused = |number, list, line| Err(Refusal { number, list, line, place: 0 });
     for (reference, first, second, room, expected) in [
-        (&b"GcA"[..], &bad[..], &b""[..], 1_023, refused(1, 0, 0)),
+        (&b"GuA"[..], &bad[..], &b""[..], 1_023, refused(1, 0, 0)),
         (b"GCA", &bad, b"", 1_023, refused(2, 0, 0)),
         (b"GCA", &bad, b"", 1_024, refused(12, 1, 4)),
         (b"GCA", &good, b"", 1_024, refused(3, 2, 0)),

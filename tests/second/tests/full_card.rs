@@ -5,6 +5,8 @@ mod common;
 use common::calls::{normal, Case};
 use common::lists::{raw, NAME};
 use common::random::Random;
+use second::drawn::cased::Cased;
+use second::Entry;
 
 const BASES: usize = 65_535;
 const ENTRIES: usize = 512;
@@ -36,6 +38,27 @@ fn every_entry_is_matched_in_another_form() {
     let written = normal(&case.reference, NAME, &case.second).expect("accepted");
     let genotype_aside = |text: &[u8]| String::from_utf8_lossy(text).replace("1/0", "0/1");
     assert_eq!(genotype_aside(&written), genotype_aside(&case.first));
+}
+
+#[test]
+fn a_card_is_made_in_lower_case_or_on_a_soft_masked_reference() {
+    let words = |last: &str| vec!["all".to_string(), last.to_string()];
+    for (last, reference, allele, left) in [
+        ("lower", [&[b'a'; 700][..]].concat(), &b"ac"[..], 1),
+        ("mixed", [&[b'A'; 300][..], &[b'a'; 300], &[b'A'; 100]].concat(), b"AC", 1),
+        ("twelve", vec![b'A'; 700], b"AC", 2),
+    ] {
+        let mut words = words(last);
+        let cased = Cased::taken(&mut words);
+        assert_eq!(words.len(), left);
+        let mut found = vec![b'A'; 700];
+        cased.reference(&mut found);
+        assert_eq!(found, reference);
+        let (alts, copies) = (vec![b"AC".to_vec(); 2], [1, 1]);
+        let mut entries = [Entry { pos: 1, reference: b"AC".to_vec(), alts, copies }];
+        cased.entries(&mut entries);
+        assert!(entries[0].alleles().all(|one| one == allele));
+    }
 }
 
 #[test]

@@ -36,7 +36,7 @@ fn a_refusal_is_the_only_line() {
 #[test]
 fn a_refusal_of_an_allele_ends_in_its_place() {
     let good = text(&["2 C T 0/1"]);
-    for (alt, told) in [("T,", "20\t1\t4\t14"), ("a,T", "21\t1\t4\t12"), ("TT,TT", "23\t1\t4\t15")]
+    for (alt, told) in [("T,", "20\t1\t4\t14"), ("u,T", "21\t1\t4\t12"), ("TT,TT", "23\t1\t4\t15")]
     {
         let bad = text(&["2 C T 0/1", &format!("2 C {alt} 0/1")]);
         let line = format!("refused\t{told}\n").into_bytes();

@@ -31,7 +31,7 @@ fn row_20_the_first_allele_is_empty_or_over_64_bytes() {
             assert_alt_refused(&alt, 20, 0);
         }
     }
-    for alt in [",", ",T", ",,", ",C", ",t", ",T,G"] {
+    for alt in [",", ",T", ",,", ",C", ",t", ",u", ",T,G"] {
         assert_alt_refused(alt, 20, 0);
     }
 }
@@ -48,9 +48,9 @@ fn row_20_the_second_allele_is_empty_or_over_64_bytes() {
 
 #[test]
 fn row_21_the_first_allele_has_a_wrong_byte() {
-    for first in ["t", "c", "n", ".", "*", "<DEL>", "T[3[", "T ", " T", "TGt", "T;G", "R", "\0"] {
+    for first in ["u", "r", "b", ".", "*", "<DEL>", "T[3[", "T ", " T", "TGu", "T;G", "R", "\0"] {
         assert_alt_refused(first, 21, 0);
-        for second in ["T", "", "C", "t", first] {
+        for second in ["T", "", "C", "t", "u", first] {
             assert_alt_refused(&format!("{first},{second}"), 21, 0);
         }
     }
@@ -58,7 +58,7 @@ fn row_21_the_first_allele_has_a_wrong_byte() {
 
 #[test]
 fn row_21_the_second_allele_has_a_wrong_byte() {
-    for second in ["t", "c", ".", "*", "<DEL>", "T[3[", "G ", " G", "TGt", "\0", ",", "G,", ",G"] {
+    for second in ["u", "x", ".", "*", "<DEL>", "T[3[", "G ", " g", "TGr", "\0", ",", "g,", ",G"] {
         assert_alt_refused(&format!("T,{second}"), 21, 2);
         assert_alt_refused(&format!("TAG,{second}"), 21, 4);
     }
@@ -66,7 +66,7 @@ fn row_21_the_second_allele_has_a_wrong_byte() {
 
 #[test]
 fn row_22_the_first_allele_is_ref() {
-    for alt in ["C", "C,T", "C,", "C,t", "C,C", "C,T,G"] {
+    for alt in ["C", "C,T", "C,", "C,u", "C,C", "C,T,G", "c", "c,T", "c,", "c,u", "c,C"] {
         assert_alt_refused(alt, 22, 0);
     }
 }
@@ -75,12 +75,20 @@ fn row_22_the_first_allele_is_ref() {
 fn row_22_the_second_allele_is_ref() {
     assert_alt_refused("T,C", 22, 2);
     assert_alt_refused("CC,C", 22, 3);
+    assert_alt_refused("t,c", 22, 2);
+    assert_alt_refused("CC,c", 22, 3);
 }
 
 #[test]
 fn row_23_the_second_allele_is_the_first() {
     assert_alt_refused("T,T", 23, 2);
     assert_alt_refused("CAT,CAT", 23, 4);
+    for again in ["CAt", "cat", "CaT", "CAT"] {
+        assert_alt_refused(&format!("CAT,{again}"), 23, 4);
+        assert_alt_refused(&format!("{again},CAT"), 23, 4);
+    }
+    assert_alt_refused("t,T", 23, 2);
+    assert_alt_refused("n,N", 23, 2);
     let most = "T".repeat(64);
     assert_alt_refused(&format!("{most},{most}"), 23, 65);
 }
@@ -100,7 +108,7 @@ fn over_64_comes_before_a_wrong_byte() {
     for byte in ["A", "C", "c", ",", ".", "\0", " "] {
         assert_alt_refused(&format!("AA,{}", byte.repeat(65)), 20, 3);
     }
-    for byte in ["t", ".", "\0"] {
+    for byte in ["u", ".", "\0"] {
         assert_alt_refused(&byte.repeat(65), 20, 0);
         assert_alt_refused(&byte.repeat(64), 21, 0);
     }
@@ -109,9 +117,9 @@ fn over_64_comes_before_a_wrong_byte() {
 #[test]
 fn the_whole_of_the_first_allele_comes_before_the_second() {
     let long = "T".repeat(65);
-    let of_first = [("", 20), (&long, 20), ("t", 21), ("C", 22)];
+    let of_first = [("", 20), (&long, 20), ("u", 21), ("C", 22), ("c", 22)];
     for (first, row) in of_first {
-        for second in ["", &long, "t", "C", "T", first] {
+        for second in ["", &long, "u", "C", "c", "T", first] {
             assert_alt_refused(&format!("{first},{second}"), row, 0);
         }
     }
@@ -138,7 +146,10 @@ fn the_place_counts_all_bytes_before_the_allele() {
 #[test]
 fn any_two_other_alleles_are_taken_and_shown() {
     let most = ["A".repeat(64), "T".repeat(64)];
-    for alt in ["T", "N", "T,A", "CC,CCC", "CA,T", &most.join(",")] {
+    let lower = most.join(",").to_lowercase();
+    for alt in
+        ["T", "N", "T,A", "CC,CCC", "CA,T", &most.join(","), "t", "n", "t,A", "cc,CCC", &lower]
+    {
         assert_accepted(REFERENCE, &text(&[&format!("2 C {alt} 0/1")]), 1);
     }
     let list = text(&["2 C TA,G 1/2"]);

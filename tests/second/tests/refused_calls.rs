@@ -19,7 +19,7 @@ fn two_clusters() -> Case {
 fn row_1_a_wrong_reference_refuses_every_call() {
     let empty = text(&[]);
     let long = vec![b'A'; 65_536];
-    for wrong in [&b""[..], b"a", b"X", b"ACGTNU", b"AC\n", b"A C", b"\0", &long] {
+    for wrong in [&b""[..], b"u", b"X", b"ACGTNU", b"acgtnr", b"AC\n", b"A C", b"\0", &long] {
         let (as_first, as_second) = refusals(wrong, &empty, &empty);
         for refusal in as_first.into_iter().chain(as_second) {
             assert_eq!(refusal, call(1));

@@ -66,7 +66,7 @@ fn row_8_pos_is_decimal_from_1_to_65535() {
 
 #[test]
 fn row_9_ref_is_bases() {
-    for wrong in ["c", "X", ".", "C,A", "CR", "*", "<DEL>", "C "] {
+    for wrong in ["u", "X", ".", "C,A", "CR", "cr", "cu", "*", "<DEL>", "C ", "c "] {
         assert_line_refused(&with_field(4, wrong), 9);
     }
 }
@@ -100,7 +100,7 @@ fn row_12_genotype_is_not_0_0() {
 
 #[test]
 fn row_13_ref_stands_in_the_reference() {
-    for wrong in ["2 A T 0/1", "2 CT T 0/1", "2 N T 0/1", "7 GG T 0/1", "7 GA G 1/1"] {
+    for wrong in ["2 A T 0/1", "2 CT T 0/1", "2 N T 0/1", "7 GG T 0/1", "7 GA G 1/1", "2 a t 0/1"] {
         assert_line_refused(&line(wrong), 13);
     }
     for wrong in ["8 G T 0/1", "9 A T 0/1", "65535 C T 1/1", "2 CATATGG C 1/1"] {

@@ -73,6 +73,50 @@ fn only_pos_ref_and_alt_are_replaced() {
 }
 
 #[test]
+fn alleles_are_written_in_upper_case() {
+    for (reference, read, written) in [
+        // Normal already, in upper case or not.
+        ("gcatatg", "2 c t 0/1", "2 C T 0/1"),
+        ("GCATATG", "2 cAt c,tT 1/2", "2 CAT C,TT 1/2"),
+        ("gcatatg", "2 CAT C 1/1", "2 CAT C 1/1"),
+        // Trimmed and shifted.
+        ("gcatatg", "1 gC gT 0/1", "2 C T 0/1"),
+        ("GCATATG", "4 tAt t 1/1", "2 CAT C 1/1"),
+        // The base before comes from the reference.
+        ("gcatatg", "4 TAT T 1/1", "2 CAT C 1/1"),
+        ("GcaTAtG", "6 t TAT 1/1", "2 C CAT 1/1"),
+        ("cnaag", "3 AA A 1/1", "2 NA N 1/1"),
+        ("CnaAG", "4 a aA 1/1", "2 N NA 1/1"),
+        // Up to POS 1.
+        ("aaCG", "2 AC C 1/1", "1 AA A 1/1"),
+        ("aAaAaC", "5 A aa 0/1", "1 A AA 0/1"),
+    ] {
+        let found = normal(reference.as_bytes(), NAME, &text(&[read]));
+        assert_eq!(found, Ok(text(&[written])), "{reference} {read}");
+    }
+}
+
+#[test]
+fn what_is_carried_keeps_its_case() {
+    let record = |pos: &str, reference: &str, alt: &str| {
+        let fields = [
+            "chR1", pos, "rs_acgtN", reference, alt, "acgT", "q10;gcat", "aC=n;CAT", "GT:ac",
+            "1/1:gt",
+        ];
+        fields.join("\t").into_bytes()
+    };
+    let column = COLUMN_LINE.replace("sample", "acgTn");
+    let with = |line: Vec<u8>| {
+        let header =
+            [VERSION_LINE, "##reference=gcatATG", &column].map(|line| line.as_bytes().to_vec());
+        all_lines(header.into_iter().chain([line]))
+    };
+    let found = |read: Vec<u8>| normal(b"gcatatg", b"chR1", &with(read));
+    assert_eq!(found(record("4", "tat", "t")), Ok(with(record("2", "CAT", "C"))));
+    assert_eq!(found(record("2", "cat", "c")), Ok(with(record("2", "CAT", "C"))));
+}
+
+#[test]
 fn pos_may_gain_or_lose_a_digit() {
     let line = common::lists::line;
     let reference = format!("{}CG", "A".repeat(10));

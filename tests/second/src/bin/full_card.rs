@@ -1,11 +1,13 @@
-//! `full_card SHAPE FILE` writes to FILE a case for the driver, on a full card: 65,535 bases and a list
+//! `full_card SHAPE FILE [lower|mixed]` writes to FILE a case for the driver, on a full card: 65,535 bases and a list
 //! of 512 records, or of as many as a text holds. The entry asked for is none of them, so that all is
 //! judged and nothing shown. Prints the number of bytes of the text, of records and of bases.
 //!
 //! The shapes: `short` records, records with long `carried` fields, records with long `alleles`, and
-//! records with the `longest` alleles, of which a text holds fewer.
+//! records with the `longest` alleles, of which a text holds fewer. With `lower` the same card has all its bases in lower case, with
+//! `mixed` the reference alone, by stretches.
 
-use second::drawn::list::{fill_line, Fields};
+use second::drawn::cased::Cased;
+use second::drawn::list::{fill_line, Fields, ALT, REF};
 use second::drawn::lists::{raw, NAME};
 use second::drawn::random::Random;
 use second::drive::case::{Call, Case};
@@ -21,13 +23,14 @@ const TEXT_MOST: usize = 65_536;
 const LONGEST_LINE: usize = 126;
 
 fn main() -> ExitCode {
-    let arguments: Vec<String> = std::env::args().skip(1).collect();
+    let mut arguments: Vec<String> = std::env::args().skip(1).collect();
+    let cased = Cased::taken(&mut arguments);
     let card = match &arguments[..] {
-        [shape, _] => full_card(shape),
+        [shape, _] => full_card(shape, cased),
         _ => None,
     };
     let Some((reference, text)) = card else {
-        eprintln!("usage: full_card short|carried|alleles|longest FILE");
+        eprintln!("usage: full_card short|carried|alleles|longest FILE [lower|mixed]");
         return ExitCode::from(2);
     };
     let records = second::read(&reference, NAME, 1, &text).expect("accepted").records.len();
@@ -42,9 +45,9 @@ fn main() -> ExitCode {
 }
 
 /// A reference and the text of a list.
-fn full_card(shape: &str) -> Option<(Vec<u8>, Vec<u8>)> {
+fn full_card(shape: &str, cased: Cased) -> Option<(Vec<u8>, Vec<u8>)> {
     let mut random = Random::new(1);
-    let reference: Vec<u8> = (0..BASES).map(|_| *random.pick(b"ACGT")).collect();
+    let mut reference: Vec<u8> = (0..BASES).map(|_| *random.pick(b"ACGT")).collect();
     let (ref_length, line_length) = match shape {
         "short" => (1, 0),
         "carried" => (1, LONGEST_LINE),
@@ -57,11 +60,14 @@ fn full_card(shape: &str) -> Option<(Vec<u8>, Vec<u8>)> {
         let start = number * APART;
         let mut fields = fields(start + 1, &reference[start..start + ref_length]);
         fill_line(&mut fields, line_length);
+        cased.alleles(&mut fields[REF]);
+        cased.alleles(&mut fields[ALT]);
         let line = fields.join(&b'\t');
         left = left.checked_sub(line.len() + 1)?;
         Some(line)
     };
     let text = raw((0..RECORDS).map_while(record));
+    cased.reference(&mut reference);
     Some((reference, text))
 }
 

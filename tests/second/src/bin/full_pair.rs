@@ -1,4 +1,4 @@
-//! `full_pair FOLDER all|none|TENTH|snvs [twelve]` writes to FOLDER two lists on 65,535 bases, as reference.txt, first.vcf, second.vcf, and
+//! `full_pair FOLDER all|none|TENTH|snvs [twelve] [lower|mixed]` writes to FOLDER two lists on 65,535 bases, as reference.txt, first.vcf, second.vcf, and
 //! reference.fa, the same bases in bcftools' form. Prints how many entries and clusters they have.
 //!
 //! The bases have 450 repeats, evenly over them, with drawn bases between. At each stands a cluster of 1 to 4 entries, mostly two, one
@@ -7,8 +7,11 @@
 //!
 //! `snvs` takes none of them, and puts as many substitutions of one base into each list as it can have, 512, evenly over the bases: the
 //! same in both, so that each pair is a cluster.
+//!
+//! With `lower` all bases of the same card are in lower case, with `mixed` those of the reference alone, by stretches.
 
 use second::clusters::clusters;
+use second::drawn::cased::Cased;
 use second::drawn::lists::{all_lines, contig_header};
 use second::drawn::random::Random;
 use second::list::RECORDS_MOST;
@@ -30,13 +33,14 @@ const STEP: usize = 5;
 const TWELVE: usize = 12;
 
 fn main() -> ExitCode {
-    let arguments: Vec<String> = std::env::args().skip(1).collect();
+    let mut arguments: Vec<String> = std::env::args().skip(1).collect();
+    let cased = Cased::taken(&mut arguments);
     let words: Vec<&str> = arguments.iter().map(String::as_str).collect();
     let (folder, part, with_twelve) = match words[..] {
         [folder, part] => (folder, part, false),
         [folder, part, "twelve"] => (folder, part, true),
         _ => {
-            eprintln!("usage: full_pair FOLDER all|none|TENTH|snvs [twelve]");
+            eprintln!("usage: full_pair FOLDER all|none|TENTH|snvs [twelve] [lower|mixed]");
             return ExitCode::from(2);
         }
     };
@@ -63,6 +67,8 @@ fn main() -> ExitCode {
     }
     let found = clusters(&reference, lists.each_ref().map(Vec::as_slice));
     assert_eq!(found.len(), expected, "each cluster is one");
+    cased.reference(&mut reference);
+    lists.iter_mut().for_each(|list| cased.entries(list));
     let files = [
         ("reference.txt", [&reference[..], b"\n"].concat()),
         ("reference.fa", [b">chr1\n", &reference[..], b"\n"].concat()),

@@ -1,11 +1,13 @@
-//! `outside SEED FOLDER` draws a list for a program from outside to normalise, and writes to FOLDER reference.txt,
+//! `outside SEED FOLDER [masked]` draws a list for a program from outside to normalise, and writes to FOLDER reference.txt,
 //! first.vcf, and reference.fa, the same bases in that program's form.
 //!
 //! The reference has no N. It is made of repeats of units of 1 to 6 bases, up to 520 bases long, with other bases
 //! between; with an odd seed it begins with a repeat. The records, each with an ID of its own, have one or two ALTs
-//! and stand anywhere in a repeat, so that their normal form is up to some 500 places to the left.
+//! and stand anywhere in a repeat, so that their normal form is up to some 500 places to the left. With `masked` stretches of the reference are
+//! in lower case, and each record writes its alleles as they are there, in upper case, in lower case, or in any.
 
 use second::drawn::lists::contig_text;
+use second::drawn::masked::{mask_entry, stretches, write};
 use second::drawn::random::Random;
 use second::drawn::world::random_copies;
 use second::Entry;
@@ -27,16 +29,25 @@ struct Repeat {
 
 fn main() -> ExitCode {
     let arguments: Vec<String> = std::env::args().skip(1).collect();
-    let [seed, folder] = &arguments[..] else {
-        eprintln!("usage: outside SEED FOLDER");
-        return ExitCode::from(2);
+    let (seed, folder, is_masked) = match &arguments[..] {
+        [seed, folder] => (seed, folder, false),
+        [seed, folder, word] if word == "masked" => (seed, folder, true),
+        _ => {
+            eprintln!("usage: outside SEED FOLDER [masked]");
+            return ExitCode::from(2);
+        }
     };
     let seed: u64 = seed.parse().expect("a number");
     let random = &mut Random::new(seed);
-    let (reference, repeats) = reference(random, seed % 2 == 1);
+    let (mut reference, repeats) = reference(random, seed % 2 == 1);
     let mut entries: Vec<Entry> =
         (0..RECORDS).map(|_| entry(random, &reference, &repeats)).collect();
     entries.sort_by_key(|entry| entry.pos);
+    if is_masked {
+        let mask = stretches(random, reference.len());
+        entries.iter_mut().for_each(|entry| mask_entry(random, entry, &mask));
+        write(&mut reference, |place| mask[place]);
+    }
     let folder = Path::new(folder);
     let bases = String::from_utf8(reference.clone()).expect("bases");
     let files = [

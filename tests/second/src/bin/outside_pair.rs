@@ -1,11 +1,13 @@
-//! `outside_pair SEED FOLDER` draws two lists on one reference for program compare and for bcftools, and writes to FOLDER reference.txt,
+//! `outside_pair SEED FOLDER [masked]` draws two lists on one reference for program compare and for bcftools, and writes to FOLDER reference.txt,
 //! first.vcf and second.vcf, and reference.fa, the same bases in bcftools' form.
 //!
 //! The reference has no N. It is made of small worlds, one behind the other, with drawn bases between, so that mostly each world gives
 //! a cluster or more; it begins and ends with a world. One world in three is a repeat with one change, which each list writes
-//! somewhere in it.
+//! somewhere in it. With `masked` stretches of the reference are in lower case, and each entry writes its alleles as they are there, in upper
+//! case, in lower case, or in any.
 
 use second::drawn::lists::contig_text;
+use second::drawn::masked::{mask_entry, stretches, write};
 use second::drawn::random::Random;
 use second::drawn::world::{random_copies, World};
 use second::Entry;
@@ -21,12 +23,22 @@ const UNIT_MOST: usize = 6;
 
 fn main() -> ExitCode {
     let arguments: Vec<String> = std::env::args().skip(1).collect();
-    let [seed, folder] = &arguments[..] else {
-        eprintln!("usage: outside_pair SEED FOLDER");
-        return ExitCode::from(2);
+    let (seed, folder, is_masked) = match &arguments[..] {
+        [seed, folder] => (seed, folder, false),
+        [seed, folder, word] if word == "masked" => (seed, folder, true),
+        _ => {
+            eprintln!("usage: outside_pair SEED FOLDER [masked]");
+            return ExitCode::from(2);
+        }
     };
     let random = &mut Random::new(seed.parse().expect("a number"));
-    let World { reference, lists: [first, second] } = joined_worlds(random);
+    let World { mut reference, mut lists } = joined_worlds(random);
+    if is_masked {
+        let mask = stretches(random, reference.len());
+        lists.iter_mut().flatten().for_each(|entry| mask_entry(random, entry, &mask));
+        write(&mut reference, |place| mask[place]);
+    }
+    let [first, second] = lists;
     let files = [
         ("reference.txt", [&reference[..], b"\n"].concat()),
         ("reference.fa", [b">chr1\n", &reference[..], b"\n"].concat()),

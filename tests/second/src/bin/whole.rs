@@ -7,7 +7,7 @@ use second::drive::draw::folders::{folder, named_folder, FILES};
 use second::drive::draw::names::Given;
 use second::drive::draw::runs::{self, runs_file};
 use second::programs::NAME;
-use second::whole::{hold, Folder};
+use second::whole::{hold, Folder, LOWER};
 use std::process::ExitCode;
 
 /// What each run of lot_report is to come upon.
@@ -25,7 +25,7 @@ const GIVEN: [&str; 6] = [
 ];
 
 /// A program by its name: its folder of a seed and number, the kind of something that it prints, and the kinds that are demanded, of
-/// a program that reads lists among them each fault of an allele of ALT in each list.
+/// a program that reads lists among them each fault of an allele of ALT in each list, and what is in lower case.
 struct Program {
     draw: Box<dyn Fn(u64, u64) -> Folder>,
     kind: fn(&str) -> String,
@@ -60,7 +60,9 @@ fn parsed(arguments: &[String], is_named: bool) -> Option<(Program, u64, u64, &[
     let of_lists = |print, kind, lists| {
         let draw = Box::new(move |seed, number| of_two_lists(seed, number, is_named, print));
         let given: &[&str] = if is_named { &GIVEN } else { &[] };
-        let demanded = given.iter().map(ToString::to_string).chain(at_alleles(lists)).collect();
+        let lower = LOWER.map(|lower| format!("{lower} answered"));
+        let given = given.iter().map(ToString::to_string).chain(lower);
+        let demanded = given.chain(at_alleles(lists)).collect();
         Program { draw, kind, demanded }
     };
     let program = match program.as_str() {

@@ -2,20 +2,34 @@
 //! fault asked for is the one that is told, whatever the second allele is where the first is at fault.
 
 use super::list::{any_bases, ALLELE_MOST};
+use super::masked::{in_another_case, write};
 use super::random::Random;
+use crate::bases::same;
 
-/// Bytes that are no base. A comma is one too, but only in a second allele.
-const FALSE: &[u8] = b".*acgtnRUXZ<>[]:;/|0 -\r\0@BDFHMOS\x7f\xff";
+/// Bytes that are no base: of letters those beside one, and of other bytes those with a bit of one changed too. A comma is none
+/// either, but only in a second allele.
+const FALSE: &[u8] = b".*RUXZruxz<>[]:;/|0 -\r\0@BDFHMOS`bdfhmos!#'4\x01\x0e\xc1\xe1\xee\x7f\xff";
 const FALSE_WORDS: [&[u8]; 10] =
-    [b".", b"*", b"a", b"n", b"A ", b" A", b"<DEL>", b"A[chr1:3[", b"A\0", b"A\r"];
+    [b".", b"*", b"u", b"nr", b"A ", b" a", b"<DEL>", b"A[chr1:3[", b"a\0", b"A\r"];
 
-/// The field ALT for this REF, with a fault of row 20 to 23. Row 23 is always told at the second allele.
-pub fn false_alts(random: &mut Random, reference: &[u8], row: u32, is_second: bool) -> Vec<u8> {
+/// The field ALT for this REF, with a fault of row 20 to 23. Row 23 is always told at the second allele. Rows 22 and 23 are of
+/// equal bases: `is_recased` says whether in another case.
+pub fn false_alts(
+    random: &mut Random,
+    reference: &[u8],
+    row: u32,
+    is_second: bool,
+    is_recased: bool,
+) -> Vec<u8> {
     let good = good_allele(random, reference);
     if row == 23 {
-        return [&good[..], b",", &good].concat();
+        let again = if is_recased { in_another_case(random, &good) } else { good.clone() };
+        return [&good[..], b",", &again].concat();
     }
-    let wrong = false_allele(random, reference, row, is_second);
+    let mut wrong = false_allele(random, reference, row, is_second);
+    if row == 22 && is_recased {
+        wrong = in_another_case(random, &wrong);
+    }
     if is_second {
         return [&good[..], b",", &wrong].concat();
     }
@@ -44,7 +58,9 @@ fn good_allele(random: &mut Random, reference: &[u8]) -> Vec<u8> {
             2 if allele.len() > 1 => drop(allele.pop()),
             _ => allele[0] = base,
         }
-        if allele != reference {
+        if !same(&allele, reference) {
+            let lower_in = *random.pick(&[usize::MAX, usize::MAX, 1, 2]);
+            write(&mut allele, |_| random.once_in(lower_in));
             return allele;
         }
     }

@@ -5,8 +5,9 @@ use super::false_alts::false_alts;
 use super::list::{fill_line, Drawn, Fields, ALT, CHROM, FORMAT, LINE_MOST, POS, REF, SAMPLE};
 use super::random::Random;
 
-/// The rows that `fault` breaks on a line; twice those that it breaks at either allele.
-pub const ROWS: [u32; 17] = [4, 5, 6, 7, 8, 9, 20, 20, 21, 21, 22, 22, 23, 11, 12, 13, 14];
+/// The rows that `fault` breaks on a line; twice those that it breaks at either allele, and those that it breaks in either case.
+pub const ROWS: [u32; 20] =
+    [4, 5, 6, 7, 8, 9, 20, 20, 21, 21, 22, 22, 22, 22, 23, 23, 11, 12, 13, 14];
 
 const FALSE_POS: [&[u8]; 14] = [
     b"0",
@@ -25,7 +26,10 @@ const FALSE_POS: [&[u8]; 14] = [
     b"4294967297",
     b"18446744073709551617",
 ];
-const FALSE_ALLELE: [&[u8]; 8] = [b".", b"*", b"a", b"n", b"R", b"A ", b"<DEL>", b"A\0"];
+const FALSE_ALLELE: [&[u8]; 14] = [
+    b".", b"*", b"u", b"R", b"A ", b"<DEL>", b"A\0", b"\xe1", b"acgtnx", b"a-", b"a,c", b"nr",
+    b"Ac ", b"t\0",
+];
 const FALSE_FORMAT: [&[u8]; 7] = [b"G", b"gt", b"GTX", b"GT;", b"DP:GT", b":GT", b"GT\r"];
 const FALSE_GENOTYPE: [&[u8]; 16] = [
     b".", b"./.", b"1", b"1/", b"/1", b"1/1/1", b"1\\1", b"1 1", b"1/1 ", b" 1/1", b":1/1",
@@ -81,8 +85,8 @@ fn record_fault(random: &mut Random, fields: &mut Fields, reference: usize, row:
         8 => fields[POS] = random.pick(&FALSE_POS).to_vec(),
         9 => fields[REF] = false_allele(random),
         20..=23 => {
-            let is_second = random.once_in(2);
-            fields[ALT] = false_alts(random, &fields[REF], row, is_second);
+            let (is_second, is_recased) = (random.once_in(2), random.once_in(2));
+            fields[ALT] = false_alts(random, &fields[REF], row, is_second, is_recased);
         }
         11 if random.once_in(2) => fields[FORMAT] = random.pick(&FALSE_FORMAT).to_vec(),
         11 => fields[SAMPLE] = random.pick(&FALSE_GENOTYPE).to_vec(),
@@ -109,7 +113,7 @@ fn count_fault(random: &mut Random, fields: &mut Fields) {
 
 fn name_fault(random: &mut Random, name: &mut Vec<u8>) {
     let last = name.len().saturating_sub(1);
-    match random.below(4) {
+    match random.below(6) {
         0 => name.push(b'1'),
         _ if name.is_empty() => {}
         1 if last > 0 => drop(name.pop()),
@@ -121,7 +125,7 @@ fn name_fault(random: &mut Random, name: &mut Vec<u8>) {
 /// Not a base, or one base more than an allele may have.
 fn false_allele(random: &mut Random) -> Vec<u8> {
     match random.once_in(3) {
-        true => vec![*random.pick(b"ACGTN"); 65],
+        true => vec![*random.pick(b"ACGTNacgtn"); 65],
         false => random.pick(&FALSE_ALLELE).to_vec(),
     }
 }
@@ -130,7 +134,7 @@ fn false_allele(random: &mut Random) -> Vec<u8> {
 fn place_fault(random: &mut Random, fields: &mut Fields, reference: usize) {
     let place = random.below(fields[REF].len().max(1));
     match random.below(3) {
-        0 if !fields[REF].is_empty() => fields[REF][place] = *random.pick(b"ACGTN"),
+        0 if !fields[REF].is_empty() => fields[REF][place] = *random.pick(b"ACGTNacgtn"),
         1 => fields[POS] = (reference + random.below(2)).to_string().into_bytes(),
         _ => fields[POS] = random.between(1, reference.max(1)).to_string().into_bytes(),
     }

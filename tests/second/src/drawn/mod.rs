@@ -4,16 +4,18 @@
 //! - `world` draws small references with two lists, of which `rewritten` makes the second from the first
 //! - `repeats` draws repeats and entries in them, `large` clusters with long alleles and on long stretches
 //! - `list` draws one list in all its variety, `sizes` one of the sizes where the rules change, `pairs`
-//!   two lists on one reference
+//!   two lists on one reference; `masked` puts bases of these into lower case, `cased` all bases of a full card
 //! - `fault` breaks a chosen row of the table in such a list, with `false_alts` for those on ALT, `damage` breaks
 //!   any text anywhere, `mutate` changes bytes of anything
 
+pub mod cased;
 pub mod damage;
 pub mod false_alts;
 pub mod fault;
 pub mod large;
 pub mod list;
 pub mod lists;
+pub mod masked;
 pub mod mutate;
 pub mod pairs;
 pub mod random;

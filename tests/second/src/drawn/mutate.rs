@@ -1,6 +1,7 @@
 //! Changes by bytes, to anything that is lent. They know lines, cells of lines and bytes that mean something,
 //! and no other rule.
 
+use super::masked::in_another_case;
 use super::random::Random;
 use std::ops::Range;
 
@@ -25,7 +26,7 @@ pub fn mutate(random: &mut Random, bytes: &mut Vec<u8>, other: &[u8]) {
     let place = any_place(random, bytes);
     let part = part(random, bytes);
     let piece = *random.pick(&PIECES);
-    match random.below(40) {
+    match random.below(50) {
         0..=2 => bytes[place] ^= 1 << random.below(8),
         3..=8 => bytes[place] = telling,
         9..=13 => change_a_digit(random, bytes, place),
@@ -35,7 +36,8 @@ pub fn mutate(random: &mut Random, bytes: &mut Vec<u8>, other: &[u8]) {
         22..=25 => repeat(random, bytes, part),
         26 | 27 => put(random, bytes, place, piece),
         28..=30 => put_part_of(random, bytes, part.start, other),
-        31..=38 => change_a_cell(random, bytes, place),
+        31..=43 => change_a_cell(random, bytes, place),
+        44..=48 => change_case(random, &mut bytes[part]),
         _ => bytes.truncate(part.start),
     }
     bytes.truncate(LENGTH_MOST);
@@ -74,6 +76,14 @@ fn change_a_digit(random: &mut Random, bytes: &mut [u8], place: usize) {
     }
 }
 
+/// Of a few bytes, or of one, letters get the other case.
+fn change_case(random: &mut Random, part: &mut [u8]) {
+    let place = random.below(part.len());
+    let length = *random.pick(&[1, part.len() - place]);
+    let part = &mut part[place..place + length];
+    part.copy_from_slice(&in_another_case(random, part));
+}
+
 /// The part stands again behind itself: once, or so often that a line is the 513th record, that a line
 /// is too long, or that all is too long; or just not.
 fn repeat(random: &mut Random, bytes: &mut Vec<u8>, part: Range<usize>) {
@@ -96,13 +106,16 @@ fn put(random: &mut Random, bytes: &mut Vec<u8>, place: usize, piece: &[u8]) {
 }
 
 /// A cell of the line at the place, which a TAB or a comma ends, comes in the place of one of the next two, or behind it or itself with a
-/// comma between; or a comma alone stands before or behind it; or it becomes 64 bytes long, or one more.
+/// comma between; or a comma alone stands before or behind it; or it becomes 64 bytes long, or one more. Its letters may have another case then.
 fn change_a_cell(random: &mut Random, bytes: &mut Vec<u8>, place: usize) {
     let cells = cells(bytes, place);
     let number = random.below(cells.len());
     let next = cells[(cells.len() - 1).min(number + random.between(1, 2))].clone();
     let Range { start, end } = cells[number];
-    let cell = bytes[start..end].to_vec();
+    let mut cell = bytes[start..end].to_vec();
+    if random.once_in(2) {
+        cell = in_another_case(random, &cell);
+    }
     let with_comma = [b",", &cell[..]].concat();
     let long = cell.iter().copied().cycle().take(random.between(64, 65)).collect();
     let (range, put) = match random.below(9) {

@@ -2,6 +2,7 @@
 
 use super::case::{Call, Case};
 use super::large;
+use crate::bases::folded;
 use crate::card::ENTRIES_MOST;
 use crate::normal_loop::normal_loop;
 use crate::Cluster;
@@ -41,8 +42,10 @@ pub fn answered(case: &Case) -> &'static str {
 fn normal(case: &Case, text: &[u8]) -> &'static str {
     let length = case.expected.answer.values[0] as usize;
     let list = crate::read(&case.reference, &case.name, 1, text).expect("accepted");
-    let pos = list.records.iter().map(|record| normal_loop(&case.reference, &record.entry).pos);
-    let what = if case.expected.left[0][..length] == *text {
+    let bases = folded(&case.reference);
+    let pos = list.records.iter().map(|record| normal_loop(&bases, &record.entry).pos);
+    // Its alleles may be in upper case now.
+    let what = if case.expected.left[0][..length].eq_ignore_ascii_case(text) {
         0
     } else if !pos.is_sorted() {
         1
@@ -90,7 +93,7 @@ fn planned(case: &Case, texts: &[Vec<u8>; 2]) -> &'static str {
 }
 
 /// The records of the plan that an answered call left.
-fn left_plan(case: &Case) -> Vec<Cluster> {
+pub fn left_plan(case: &Case) -> Vec<Cluster> {
     let number = |bytes: &[u8]| u32::from_le_bytes(bytes.try_into().expect("four bytes"));
     let record = |bytes: &[u8]| Cluster { first: number(&bytes[..4]), count: number(&bytes[4..]) };
     let records = case.expected.left[0].chunks(8).map(record);

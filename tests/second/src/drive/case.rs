@@ -64,6 +64,15 @@ impl Call {
             Call::Version => &[],
         }
     }
+
+    /// How many lists it is lent.
+    pub fn lists(&self) -> u32 {
+        match self {
+            Call::Version => 0,
+            Call::Allele { .. } | Call::Normal { .. } => 1,
+            _ => 2,
+        }
+    }
 }
 
 impl Case {

@@ -5,6 +5,7 @@ use super::at_allele::{at_allele, AT_ALLELES};
 use super::case::{Answer, Call, Case};
 use super::draw::{Asked, CALLS};
 use super::large;
+use super::lower_case::{all_beside, beside};
 use std::fmt::{self, Display};
 
 /// The call, the number and list of its answer and, where it is not refused, what it did; where it is refused for ALT, at which allele.
@@ -19,10 +20,12 @@ pub struct Kind {
 /// The rows that concern a list's text or a line of it, and no allele of ALT.
 const OF_A_LIST: [u32; 12] = [3, 4, 5, 6, 7, 8, 9, 11, 12, 13, 14, 15];
 
-/// The kinds that the calls of a run can answer.
-pub fn kinds(asked: Asked) -> Vec<Kind> {
-    type Answered = [(u32, &'static str)];
-    let (call, answered, of_the_call, lists): (_, &Answered, &[u32], _) = match asked {
+/// What a call that is not refused can have done, with the list of its answer.
+type Answered = [(u32, &'static str)];
+
+/// A call's name, what it can have done, the rows that concern it and no list, and how many lists it has.
+fn of_call(asked: Asked) -> (&'static str, &'static Answered, &'static [u32], u32) {
+    match asked {
         Asked::Allele => ("allele", &OF_ALLELE, &[1, 18], 1),
         Asked::Normal => ("normal", &OF_NORMAL, &[1, 2], 1),
         Asked::Plan => ("plan", &OF_PLAN, &[1, 2], 2),
@@ -31,8 +34,16 @@ pub fn kinds(asked: Asked) -> Vec<Kind> {
         Asked::MarkAll => ("mark_all", &OF_MARK_ALL, &[1, 2], 2),
         Asked::Entries => ("entries", &OF_ENTRIES, &[1, 2], 2),
         Asked::Version => ("version", &OF_VERSION, &[], 0),
-        Asked::Mutated => return kinds_of_small_lists(),
-    };
+        Asked::Mutated => ("", &[], &[], 0),
+    }
+}
+
+/// The kinds that the calls of a run can answer.
+pub fn kinds(asked: Asked) -> Vec<Kind> {
+    if asked == Asked::Mutated {
+        return kinds_of_small_lists();
+    }
+    let (call, answered, of_the_call, lists) = of_call(asked);
     let of_large: &Answered = match asked {
         Asked::Plan => &large::PLANNED,
         Asked::Mark | Asked::MarkAll => &large::MARKED,
@@ -53,7 +64,24 @@ fn kinds_of_small_lists() -> Vec<Kind> {
     CALLS.into_iter().flat_map(|(_, call)| kinds(call)).filter(is_small).collect()
 }
 
+/// What lower case does in the calls of a run, each told as a kind.
+pub fn kinds_beside(asked: Asked) -> Vec<Kind> {
+    if asked == Asked::Mutated {
+        return CALLS.into_iter().flat_map(|(_, call)| kinds_beside(call)).collect();
+    }
+    let (call, .., lists) = of_call(asked);
+    let kind = |(number, list, what)| Kind { call, number, list, what };
+    all_beside(asked, lists).into_iter().map(kind).collect()
+}
+
 impl Kind {
+    /// What lower case does in the case.
+    pub fn beside(case: &Case) -> Vec<Kind> {
+        let call = Kind::of(case).call;
+        let kind = |(number, list, what)| Kind { call, number, list, what };
+        beside(case).into_iter().map(kind).collect()
+    }
+
     pub fn of(case: &Case) -> Kind {
         let Answer { number, list, line, place, .. } = case.expected.answer;
         let what = match number {

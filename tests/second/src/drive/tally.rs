@@ -2,7 +2,7 @@
 
 use super::case::{Case, Told};
 use super::draw::Asked;
-use super::kind::{kinds, Kind};
+use super::kind::{kinds, kinds_beside, Kind};
 use std::collections::BTreeMap;
 use std::fmt::{self, Display};
 
@@ -22,6 +22,7 @@ const LINES_SHOWN: usize = 40;
 pub struct Tally {
     pub cases: u64,
     pub differences: u64,
+    /// How often each kind was answered, and each of those that lower case adds.
     kinds: BTreeMap<Kind, u64>,
     /// Of differences one behind the other only the first: the others may follow from it, where a
     /// buffer is lent as it was left.
@@ -39,7 +40,9 @@ impl Tally {
     pub fn note(&mut self, case: Case, told: Option<Told>) {
         let number = self.cases;
         self.cases += 1;
-        *self.kinds.entry(Kind::of(&case)).or_default() += 1;
+        for kind in Kind::beside(&case).into_iter().chain([Kind::of(&case)]) {
+            *self.kinds.entry(kind).or_default() += 1;
+        }
         let is_first = !self.last_differed;
         self.last_differed = told.as_ref() != Some(&case.expected);
         self.differences += u64::from(self.last_differed);
@@ -51,14 +54,14 @@ impl Tally {
         self.smallest.truncate(SHOWN);
     }
 
-    /// The kinds of the call that were answered too rarely for so many calls to have tried them.
+    /// The kinds of the call that were answered too rarely for so many calls to have tried them, and what lower case did too rarely.
     pub fn rare_kinds(&self, asked: Asked) -> Vec<String> {
         let kinds = kinds(asked);
         let count = |kind: &Kind| self.kinds.get(kind).copied().unwrap_or(0);
         let all: u64 = kinds.iter().map(count).sum();
         let once_in = if asked == Asked::Mutated { ONCE_IN_MUTATED } else { ONCE_IN };
         let is_rare = |kind: &&Kind| count(kind) < all / once_in;
-        kinds.iter().filter(is_rare).map(Kind::to_string).collect()
+        kinds.iter().chain(&kinds_beside(asked)).filter(is_rare).map(Kind::to_string).collect()
     }
 }
 
@@ -72,7 +75,7 @@ impl Display for Tally {
         let kinds = kinds.join(", ");
         writeln!(
             out,
-            "answers by call, and by number/list and allele of ALT where refused: {kinds}"
+            "answers by call, and by number/list and allele of ALT where refused, and what lower case did: {kinds}"
         )
     }
 }

@@ -1,4 +1,4 @@
-//! The rows of document 01 and of request a that can hold in a list text, each said as a predicate.
+//! The rows of document 01 and of requests a and b that can hold in a list text, each said as a predicate.
 //!
 //! Written apart from the reader: nothing here is told what the reader found or how it goes about it.
 
@@ -112,7 +112,8 @@ impl<'a> Lines<'a> {
             12 => until_colon == b"0/0" || until_colon == b"0|0",
             _ => {
                 let start = pos(fields[1]).expect("row 8 was tried before") - 1;
-                self.reference.get(start..start + reference.len()) != Some(reference)
+                let there = self.reference.get(start..start + reference.len());
+                !there.is_some_and(|there| there.eq_ignore_ascii_case(reference))
             }
         }
     }
@@ -125,9 +126,9 @@ fn alt_row_holds(row: u32, allele: usize, line: &[u8]) -> bool {
     let Some(bytes) = alleles.get(allele - 1) else { return false };
     match row {
         20 => !(1..65).contains(&bytes.len()),
-        21 => bytes.iter().any(|byte| !b"ACGTN".contains(byte)),
-        22 => *bytes == fields[3],
-        _ => *bytes == alleles[0],
+        21 => bytes.iter().any(|byte| !b"ACGTNacgtn".contains(byte)),
+        22 => bytes.eq_ignore_ascii_case(fields[3]),
+        _ => bytes.eq_ignore_ascii_case(alleles[0]),
     }
 }
 
@@ -146,7 +147,7 @@ fn is_column_line(line: &[u8]) -> bool {
 }
 
 fn is_allele(bytes: &[u8]) -> bool {
-    !bytes.is_empty() && bytes.len() <= 64 && bytes.iter().all(|byte| b"ACGTN".contains(byte))
+    !bytes.is_empty() && bytes.len() <= 64 && bytes.iter().all(|byte| b"ACGTNacgtn".contains(byte))
 }
 
 /// The number from 1 to 65,535 that is written so.

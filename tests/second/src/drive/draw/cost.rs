@@ -1,6 +1,7 @@
 //! How much a search may have to try, so that few calls are made that take long.
 
 use super::two_lists::TwoLists;
+use crate::bases::folded;
 use crate::best::is_legal;
 use crate::choice::Choice;
 use crate::clusters::{clusters, lists_of, DECIDED_MOST};
@@ -20,6 +21,7 @@ pub fn strings(two: &TwoLists) -> Vec<usize> {
     else {
         return Vec::new();
     };
+    let bases = &folded(reference);
     let entries = [first.entries(), second.entries()];
     let lists = entries.each_ref().map(Vec::as_slice);
     let items = merged(lists);
@@ -29,18 +31,18 @@ pub fn strings(two: &TwoLists) -> Vec<usize> {
         }
         let lists = lists_of(lists, &items, *cluster);
         let strings = lists.map(|list| strings_from(list, 0)).iter().product();
-        match strings > STRINGS_MOST && all_match(reference, lists) {
+        match strings > STRINGS_MOST && all_match(bases, lists) {
             true => 1,
             false => strings,
         }
     };
-    clusters(reference, lists).iter().map(strings).collect()
+    clusters(bases, lists).iter().map(strings).collect()
 }
 
 /// Whether the first string, which chooses every entry as written, is legal.
-fn all_match(reference: &[u8], lists: Lists) -> bool {
+fn all_match(bases: &[u8], lists: Lists) -> bool {
     let items = merged(lists);
-    is_legal(reference, lists, &items, &vec![Choice::Plus; items.len()])
+    is_legal(bases, lists, &items, &vec![Choice::Plus; items.len()])
 }
 
 /// The strings of choices for entries of one list, none of which may start before `end`.

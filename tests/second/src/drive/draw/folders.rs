@@ -8,15 +8,16 @@ use super::two_lists::{lists, TwoLists};
 use crate::drawn::false_alts::false_alts;
 use crate::drawn::list::{Drawn, ALT, CHROM, INFO, REF};
 use crate::drawn::lists::NAME;
+use crate::drawn::masked::masked;
 use crate::drawn::pairs::{pair, worlds};
 use crate::drawn::random::Random;
-use crate::drive::at_allele::{AT_ALLELES, SECOND};
+use crate::drive::at_allele::{AT_ALLELES, FIRST_RECASED, SECOND, SECOND_RECASED};
 
 /// The names of the three files.
 pub const FILES: [&str; 3] = ["reference.txt", "first.vcf", "second.vcf"];
 
 /// One in so many folders has an allele at fault.
-const ALT_IN: u64 = 8;
+pub const ALT_IN: u64 = 6;
 
 /// The longest name for a list of which no line may be too long.
 const SHORT: usize = 100;
@@ -31,7 +32,7 @@ pub fn folder(seed: u64, number: u64) -> (Folder, Given) {
         let files = alt_at_fault(random, NAME, number / ALT_IN);
         return (files, Given { name: None, kind: NONE });
     }
-    let lists = if random.once_in(4) { worlds(random) } else { lists(random) };
+    let lists = any_lists(random);
     let lists = if random.once_in(40) { lists } else { lists.map(|list| renamed(list, NAME)) };
     let is_spoiled = random.below(10) > 5;
     (files(random, &lists, is_spoiled), Given { name: None, kind: NONE })
@@ -44,11 +45,20 @@ pub fn named_folder(seed: u64, number: u64) -> (Folder, Given) {
         let (name, given) = short_name(random);
         return (alt_at_fault(random, &name, number / ALT_IN), given);
     }
-    let lists = if random.once_in(4) { worlds(random) } else { lists(random) };
+    let lists = any_lists(random);
     let (name, given) = names(random);
     let lists = lists.map(|list| renamed(list, &name));
     let is_spoiled = random.once_in(4);
     (files(random, &lists, is_spoiled), given)
+}
+
+/// As the calls are lent them, or those of several worlds.
+fn any_lists(random: &mut Random) -> [Drawn; 2] {
+    if !random.once_in(4) {
+        return lists(random);
+    }
+    let lists = worlds(random);
+    masked(random, lists)
 }
 
 fn files(random: &mut Random, lists: &[Drawn; 2], is_spoiled: bool) -> Folder {
@@ -80,6 +90,7 @@ fn alt_at_fault(random: &mut Random, name: &[u8], turn: u64) -> Folder {
     let (list, (row, allele)) = (turn / AT_ALLELES.len(), AT_ALLELES[turn % AT_ALLELES.len()]);
     let mut lists = loop {
         let lists = pair(random, 10).map(|list| renamed(list, name));
+        let lists = masked(random, lists);
         if !lists[list].records.is_empty() {
             break lists;
         }
@@ -89,7 +100,9 @@ fn alt_at_fault(random: &mut Random, name: &[u8], turn: u64) -> Folder {
     }
     let number = random.below(lists[list].records.len());
     let fields = &mut lists[list].records[number];
-    fields[ALT] = false_alts(random, &fields[REF], row, allele == SECOND);
+    let is_second = [SECOND, SECOND_RECASED].contains(&allele);
+    let is_recased = [FIRST_RECASED, SECOND_RECASED].contains(&allele);
+    fields[ALT] = false_alts(random, &fields[REF], row, is_second, is_recased);
     let TwoLists { reference, texts: [first, second], .. } = TwoLists::of(&lists);
     [[&reference[..], b"\n"].concat(), first, second].map(Some)
 }

@@ -57,7 +57,7 @@ impl Row {
     /// A call with something wrong in it, mostly.
     fn call_other(&mut self, random: &mut Random, cluster: usize, clusters: usize) {
         let (mut two, mut plan, mut asked) = (self.two.clone(), self.plan.clone(), cluster);
-        match random.below(12) {
+        match random.below(16) {
             0 => drop(self.call_plan()),
             1 => plan.truncate(random.between(ENTRIES_MOST - 2, ENTRIES_MOST - 1)),
             2 => plan[clusters..].fill_with(|| any_record(random)),

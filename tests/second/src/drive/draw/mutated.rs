@@ -8,6 +8,7 @@ use super::whole_pair::any_entries;
 use super::{any_room, beyond};
 use crate::card::ENTRIES_MOST;
 use crate::drawn::list::Drawn;
+use crate::drawn::masked::masked;
 use crate::drawn::mutate::mutate;
 use crate::drawn::pairs::{crowd, pair};
 use crate::drawn::random::Random;
@@ -45,11 +46,12 @@ pub fn row(random: &mut Random) -> Vec<Case> {
 /// Few entries, so that a call is quick; or as many as a cluster that is just decided, or just not.
 fn small_lists(random: &mut Random) -> [Drawn; 2] {
     let most = *random.pick(&[3, 4, 6, 6]);
-    match random.below(40) {
+    let lists = match random.below(40) {
         0 => crowd(random),
         1..=8 => long_alleles(random),
         _ => pair(random, most),
-    }
+    };
+    masked(random, lists)
 }
 
 /// Lists that have nothing to do with one another, on up to 300 bases, with alleles of up to 64.

@@ -3,6 +3,7 @@
 use super::spoil::{other_name, spoil_reference, spoiled_text};
 use super::{any_room, beyond};
 use crate::drawn::list::Drawn;
+use crate::drawn::masked::masked;
 use crate::drawn::random::Random;
 use crate::drawn::sizes::{sized_list, sized_reference};
 use crate::drive::case::{Call, Case};
@@ -24,6 +25,7 @@ fn one_list(random: &mut Random) -> OneList {
         3..=10 => Drawn::new(random, 40),
         _ => Drawn::new(random, 6),
     };
+    let [list] = masked(random, [list]);
     let records = list.records.len();
     let (mut reference, mut name) = (list.reference.clone(), list.name.clone());
     let text = match random.below(10) {

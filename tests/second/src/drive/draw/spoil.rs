@@ -15,7 +15,7 @@ pub fn spoiled_text(random: &mut Random, mut list: Drawn) -> Vec<u8> {
         return sized_text(random, &mut list);
     }
     let times = random.between(1, 3);
-    if random.once_in(2) {
+    if !random.once_in(3) {
         for _ in 0..times {
             let row = *random.pick(&ROWS);
             fault(random, &mut list, row);
@@ -39,11 +39,11 @@ pub fn spoil_reference(random: &mut Random, reference: &mut Vec<u8>) {
         1 => drop(reference.pop()),
         2 => reference.push(b'A'),
         _ if reference.is_empty() => {}
-        _ => reference[place] = *random.pick(b"acgtnUR.-*\n\0 \xff@BDFHMOSU"),
+        _ => reference[place] = *random.pick(b"UR.-*\n\0 \xff@BDFHMOSu`bdfhmrsx!\x01\xc1\xe1\xee"),
     }
 }
 
 /// A name that is no record's CHROM, mostly.
 pub fn other_name(random: &mut Random) -> Vec<u8> {
-    random.pick(&[&b""[..], b"chr1\t", b"chr", b"\n", b"chr1\t1"]).to_vec()
+    random.pick(&[&b""[..], b"chr1\t", b"chr", b"\n", b"chr1\t1", b"CHR1", b"Chr1"]).to_vec()
 }

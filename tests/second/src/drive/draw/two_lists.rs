@@ -4,6 +4,7 @@ use super::any_room;
 use super::spoil::{other_name, spoil_reference, spoiled_text};
 use crate::card::ENTRIES_MOST;
 use crate::drawn::list::Drawn;
+use crate::drawn::masked::masked;
 use crate::drawn::pairs::{apart, crowd, large, pair, sized_pair, strangers};
 use crate::drawn::random::Random;
 use crate::drive::case::{Call, Case};
@@ -42,7 +43,7 @@ impl TwoLists {
 /// Two lists that are accepted, but for some of the sizes.
 pub fn lists(random: &mut Random) -> [Drawn; 2] {
     // The large ones are few: each has as many bytes as some hundred of the others.
-    match random.below(400) {
+    let lists = match random.below(400) {
         0 | 1 => apart(random),
         2..=9 => sized_pair(random),
         10..=39 => crowd(random),
@@ -50,7 +51,8 @@ pub fn lists(random: &mut Random) -> [Drawn; 2] {
         60..=99 => strangers(random),
         100..=127 => large(random),
         _ => pair(random, 10),
-    }
+    };
+    masked(random, lists)
 }
 
 /// Half of them are as drawn, the others broken.

@@ -3,6 +3,7 @@
 use super::any_room;
 use super::cost::{strings, COSTLY, STRINGS_MOST};
 use super::two_lists::{any_length, any_number, any_plan, two_lists, TwoLists};
+use crate::drawn::masked::masked;
 use crate::drawn::pairs::worlds_and_crowd;
 use crate::drawn::random::Random;
 use crate::drive::case::{Call, Case};
@@ -11,7 +12,10 @@ use crate::Listed;
 /// As for `plan`, but for a few that have undecided clusters beside others.
 fn any_lists(random: &mut Random) -> TwoLists {
     match random.once_in(20) {
-        true => TwoLists::of(&worlds_and_crowd(random)),
+        true => {
+            let lists = worlds_and_crowd(random);
+            TwoLists::of(&masked(random, lists))
+        }
         false => two_lists(random),
     }
 }
