@@ -14,6 +14,8 @@ use Rattle.bases.proofs.bytes.same_bytes.Kinds as same-bytes-kinds
 use Rattle.bases.proofs.bytes.same_bytes.Reads as same-bytes
 use Rattle.bases.proofs.letter.letter.Kinds as letter-kinds
 use Rattle.bases.proofs.letter.letter.Reads as letter
+use Rattle.bases.proofs.letter.is_letter.Kinds as is-letter-kinds
+use Rattle.bases.proofs.letter.is_letter.Reads as is-letter
 use Rattle.bases.proofs.letter.all_letters.Kinds as all-letters-kinds
 use Rattle.bases.proofs.letter.all_letters.Reads as all-letters
 use Rattle.bases.proofs.same.is_same.Kinds as is-same-kinds
@@ -22,12 +24,12 @@ use Rattle.bases.proofs.same.agree.Kinds as agree-kinds
 use Rattle.bases.proofs.same.agree.Reads as agree
 use Rattle.bases.proofs.same.same_bases.Kinds as same-bases-kinds
 use Rattle.bases.proofs.same.same_bases.Reads as same-bases
-use Rattle.bases.proofs.stretch.part_agrees.Kinds as part-agrees-kinds
-use Rattle.bases.proofs.stretch.part_agrees.Reads as part-agrees
-use Rattle.bases.proofs.stretch.parts_agree.Kinds as parts-agree-kinds
-use Rattle.bases.proofs.stretch.parts_agree.Reads as parts-agree
-use Rattle.bases.proofs.stretch.stretches_agree.Kinds as stretches-agree-kinds
-use Rattle.bases.proofs.stretch.stretches_agree.Reads as stretches-agree
+use Rattle.bases.proofs.reference.part_agrees.Kinds as part-agrees-kinds
+use Rattle.bases.proofs.reference.part_agrees.Reads as part-agrees
+use Rattle.bases.proofs.same.parts_agree.Kinds as parts-agree-kinds
+use Rattle.bases.proofs.same.parts_agree.Reads as parts-agree
+use Rattle.bases.proofs.reference.stretches_agree.Kinds as stretches-agree-kinds
+use Rattle.bases.proofs.reference.stretches_agree.Reads as stretches-agree
 use Rattle.bases.proofs.reference.is_reference.Kinds as is-reference-kinds
 use Rattle.bases.proofs.reference.is_reference.Reads as is-reference
 use Rattle.bases.proofs.place.pos_of.Kinds as pos-of-kinds
@@ -38,8 +40,18 @@ use Rattle.bases.proofs.put.put_bytes.Kinds as put-bytes-kinds
 use Rattle.bases.proofs.put.put_bytes.Reads as put-bytes
 use Rattle.bases.proofs.put.put_byte.Kinds as put-byte-kinds
 use Rattle.bases.proofs.put.put_byte.Reads as put-byte
-use Rattle.bases.proofs.period.has_any_period.Kinds as has-any-period-kinds
-use Rattle.bases.proofs.period.has_any_period.Reads as has-any-period
+use Rattle.bases.proofs.put.put_bases.Kinds as put-bases-kinds
+use Rattle.bases.proofs.put.put_bases.Reads as put-bases
+use Rattle.bases.proofs.reference.base_count.Kinds as base-count-kinds
+use Rattle.bases.proofs.reference.base_count.Reads as base-count
+use Rattle.bases.proofs.reference.base_is.Kinds as base-is-kinds
+use Rattle.bases.proofs.reference.base_is.Reads as base-is
+use Rattle.bases.proofs.reference.bases_alike.Kinds as bases-alike-kinds
+use Rattle.bases.proofs.reference.bases_alike.Reads as bases-alike
+use Rattle.bases.proofs.reference.put_stretch.Kinds as put-stretch-kinds
+use Rattle.bases.proofs.reference.put_stretch.Reads as put-stretch
+use Rattle.bases.proofs.reference.has_any_period.Kinds as has-any-period-kinds
+use Rattle.bases.proofs.reference.has_any_period.Reads as has-any-period
 
 -- What is seen of any two results that the contract allows for the same arguments is equal.
 abbrev pub OneSeen : (n : ℕ) (ps : List (PK n)) (r : RK n) → Out n ps r → (A : Type 0) → ((κs : Lfts n) → resT r κs .Denot → A) → Type 0
@@ -58,6 +70,9 @@ abbrev pub OneLeft : (n : ℕ) (ps : List (PK n)) (r : RK n) → Out n ps r → 
 OneLeft n ps r post A see =
     (κs : Lfts n) (a : Dens κs ps) (z z′ : resT r κs .Denot) (e e′ : AtExit (endedOf n ps r) κs)
     → post κs a z e → post κs a z′ e′ → see κs e ≡ see κs e′
+
+pub is-letter-determines : OneResult 0 is-letter-kinds.ps is-letter-kinds.r is-letter.Post
+is-letter-determines κs a z z′ e e′ p q = p ∙ sym q
 
 pub letter-determines : OneResult 0 letter-kinds.ps letter-kinds.r letter.Post
 letter-determines κs a z z′ e e′ p q = p ∙ sym q
@@ -112,3 +127,24 @@ put-byte-determines κs a z z′ e e′ p q = p .0 ∙ sym (q .0)
 
 pub put-byte-leaves : OneLeft 1 put-byte-kinds.ps put-byte-kinds.r put-byte.Post (List ℕ) (λ κs e. now (e .1 .0))
 put-byte-leaves κs a z z′ e e′ p q = p .1 ∙ sym (q .1)
+
+pub put-bases-determines : OneResult 2 put-bases-kinds.ps put-bases-kinds.r put-bases.Post
+put-bases-determines κs a z z′ e e′ p q = p .0 ∙ sym (q .0)
+
+pub put-bases-leaves : OneLeft 2 put-bases-kinds.ps put-bases-kinds.r put-bases.Post (List ℕ) (λ κs e. now (e .1 .0))
+put-bases-leaves κs a z z′ e e′ p q = p .1 ∙ sym (q .1)
+
+pub base-count-determines : OneResult 1 base-count-kinds.ps base-count-kinds.r base-count.Post
+base-count-determines κs a z z′ e e′ p q = p ∙ sym q
+
+pub base-is-determines : OneResult 1 base-is-kinds.ps base-is-kinds.r base-is.Post
+base-is-determines κs a z z′ e e′ p q = p ∙ sym q
+
+pub bases-alike-determines : OneResult 1 bases-alike-kinds.ps bases-alike-kinds.r bases-alike.Post
+bases-alike-determines κs a z z′ e e′ p q = p ∙ sym q
+
+pub put-stretch-determines : OneResult 2 put-stretch-kinds.ps put-stretch-kinds.r put-stretch.Post
+put-stretch-determines κs a z z′ e e′ p q = p .0 ∙ sym (q .0)
+
+pub put-stretch-leaves : OneLeft 2 put-stretch-kinds.ps put-stretch-kinds.r put-stretch.Post (List ℕ) (λ κs e. now (e .1 .1 .1 .0))
+put-stretch-leaves κs a z z′ e e′ p q = p .1 ∙ sym (q .1)

@@ -3,7 +3,9 @@ ghost use mathlib.Core.Path.{_≡_};
 ghost use mathlib.Core.List.{[], _∷_};
 ghost use Prim.Native.Nat.{_+_, _≤_, _<_};
 ghost use lib.ListN.{length};
+ghost use Rattle.bases.specs.Letter.{basesOf};
 ghost use Rattle.bases.specs.Put.{put};
+use crate::letter::letter;
 
 // Writes the bytes into `out` from `at` on.
 pub fn put_bytes(bytes: &[u8], out: &mut [u8], at: usize) -> usize
@@ -16,6 +18,22 @@ pub fn put_bytes(bytes: &[u8], out: &mut [u8], at: usize) -> usize
     let mut i: usize = 0;
     while i < bytes.len() {
         out[at + i] = bytes[i];
+        i += 1;
+    }
+    at + i
+}
+
+// Writes the bases that the bytes spell, in upper case.
+pub fn put_bases(bytes: &[u8], out: &mut [u8], at: usize) -> usize
+    requires { ⌜ at + length (now bytes) ≤ length (now out) ⌝ }
+    ensures { λ r. ⌜
+        (r ≡ at + length (now (bytes .entry)))
+        × (now (out .exit) ≡ put (now (out .entry)) at (basesOf (now (bytes .entry))))
+        ⌝ }
+{
+    let mut i: usize = 0;
+    while i < bytes.len() {
+        out[at + i] = letter(bytes[i]);
         i += 1;
     }
     at + i

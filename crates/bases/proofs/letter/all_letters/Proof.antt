@@ -4,6 +4,7 @@ use mathlib.Core.Path.{_≡_, refl, sym, _∙_}
 use Prim.Native.Nat.{_≤_, _-_}
 use native.Mathlib.Omega.{arith}
 use borrow.Author.Needs.{needs}
+use borrow.Author.Tests.{not-true, not-false}
 use lib.ListN.{length, drop}
 use Rattle.bases.specs.Letter.{allLetters?}
 use Rattle.bases.proofs.LetterLaws.{letters-stop, letters-more, letters-past}
@@ -19,17 +20,17 @@ abbrev μ-loop : tie.MeasureT-loop
 loop-holds : tie.Need-loop-holds Inv-loop μ-loop
 loop-holds c = (omega arith, refl)
 
-shared-slice-read-letter : tie.Need-shared-slice-read-letter Inv-loop μ-loop
-shared-slice-read-letter c = omega arith
+shared-slice-read-is-letter : tie.Need-shared-slice-read-is-letter Inv-loop μ-loop
+shared-slice-read-is-letter c = omega arith
 
-letter-requires : tie.Need-letter-requires Inv-loop μ-loop
-letter-requires c κs = search needs
+is-letter-requires : tie.Need-is-letter-requires Inv-loop μ-loop
+is-letter-requires c κs = search needs
 
 returns : tie.Need-returns Inv-loop μ-loop
 returns c =
     let bs = c .before .before .before .before .before .before .args .bytes .now in
     let i = c .before .before .before .before .loop .i in
-    sym (letters-stop bs i (omega arith) (sym (c .before .letter .ensures) ∙ c .if1 .taken)) ∙ c .before .before .before .before .loop .inv .1
+    sym (letters-stop bs i (omega arith) (sym (c .before .is-letter .ensures) ∙ not-true _ (c .if1 .taken))) ∙ c .before .before .before .before .loop .inv .1
 
 add-i : tie.Need-add-i Inv-loop μ-loop
 add-i c = omega arith
@@ -41,7 +42,7 @@ loop-again : tie.Need-loop-again Inv-loop μ-loop
 loop-again c =
     let bs = c .before .before .before .before .before .before .args .bytes .now in
     let i = c .before .before .before .before .loop .i in
-    let more = letters-more bs i (omega arith) (λ e. c .if1 .left (c .before .letter .ensures ∙ e)) in
+    let more = letters-more bs i (omega arith) (sym (c .before .is-letter .ensures) ∙ not-false _ (c .if1 .left)) in
     (omega arith, sym more ∙ c .before .before .before .before .loop .inv .1)
 
 returns-2 : tie.Need-returns-2 Inv-loop μ-loop
@@ -55,8 +56,8 @@ all-letters-spec =
     Inv-loop
     μ-loop
     loop-holds
-    shared-slice-read-letter
-    letter-requires
+    shared-slice-read-is-letter
+    is-letter-requires
     returns
     add-i
     loop-less

@@ -1,14 +1,18 @@
--- `bases::letter::letter` meets its contract: its two arms are the two cases of the definition. Assumes nothing.
-use mathlib.Core.Path.{sym}
-use Rattle.bases.proofs.LetterLaws.{letter-self, letter-none}
+-- `bases::letter::letter` meets its contract: a letter without the bit of lower case is its upper-case byte. Assumes nothing.
+use mathlib.Core.Path.{sym, _∙_}
+use borrow.Author.Needs.{needs}
+use Rattle.bases.proofs.LetterLaws.{letter-and, letter-none}
 use Rattle.bases.proofs.letter.letter.Statement.{statement}
 use Rattle.bases.proofs.letter.letter.Tie as tie
 
+is-letter-requires : tie.Need-is-letter-requires
+is-letter-requires c κs = search needs
+
 returns : tie.Need-returns
-returns c = sym (letter-self (c .before .args .byte) (c .match .keys1))
+returns c = letter-and (c .before .before .args .byte) (sym (c .before .is-letter .ensures) ∙ c .if1 .taken)
 
 returns-2 : tie.Need-returns-2
-returns-2 c = sym (letter-none (c .before .args .byte) (c .match .rest .1))
+returns-2 c = sym (letter-none (c .before .before .args .byte) (sym (c .before .is-letter .ensures) ∙ c .if1 .left))
 
 pub letter-spec : {M : Type 1} → statement M
-letter-spec = tie.close (tie.spec returns returns-2)
+letter-spec = tie.close (tie.spec is-letter-requires returns returns-2)

@@ -1,9 +1,9 @@
--- `bases::stretch::parts_agree` meets its contract: parts of two texts. Assumes nothing.
+-- `bases::same::parts_agree` meets its contract: parts of two texts. Assumes nothing.
 use mathlib.Core.Path.{_∙_}
 use borrow.Author.Needs.{needs}
 use Rattle.bases.proofs.StretchLaws.{stretch-slices}
-use Rattle.bases.proofs.stretch.parts_agree.Statement.{statement}
-use Rattle.bases.proofs.stretch.parts_agree.Tie as tie
+use Rattle.bases.proofs.same.parts_agree.Statement.{statement}
+use Rattle.bases.proofs.same.parts_agree.Tie as tie
 
 add-agree : tie.Need-add-agree
 add-agree c = search needs

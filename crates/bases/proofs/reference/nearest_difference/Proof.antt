@@ -1,4 +1,4 @@
--- `bases::period::nearest_difference` meets its contract. The loop's invariant: the place is found from `above` up and below `below` down.
+-- `bases::reference::nearest_difference` meets its contract. The loop's invariant: the place is found from `above` up and below `below` down.
 -- The measure is what is left below. Assumes nothing.
 use mathlib.Core.Logic.{⊎-elim, inl, inr}
 use mathlib.Core.Path.{_≡_, sym, ap, _∙_}
@@ -10,8 +10,8 @@ use Rattle.bases.specs.Letter.{basesOf}
 use Rattle.bases.specs.Nearest.{nearest, nearestTo}
 use Rattle.bases.proofs.LetterLaws.{bases-length}
 use Rattle.bases.proofs.NearestLaws.{Past, read-same, read-other, nearest-above, nearest-below, nearest-more, nearest-end}
-use Rattle.bases.proofs.period.nearest_difference.Statement.{statement}
-use Rattle.bases.proofs.period.nearest_difference.Tie as tie
+use Rattle.bases.proofs.reference.nearest_difference.Statement.{statement}
+use Rattle.bases.proofs.reference.nearest_difference.Tie as tie
 
 abbrev Inv-loop : tie.InvT-loop
 Inv-loop stretch q at n above₀ below₀ above below = (below ≤ at) × (nearest q (basesOf stretch) above (n - above) below ≡ nearestTo at q (basesOf stretch))

@@ -1,4 +1,4 @@
--- `bases::period::first_difference` meets its contract. The loop's invariant: the place is found from i on.
+-- `bases::reference::first_difference` meets its contract. The loop's invariant: the place is found from i on.
 -- The measure is what is left of the places. Assumes nothing.
 use mathlib.Core.Path.{_≡_, refl, sym, _∙_}
 use Prim.Native.Nat.{_-_}
@@ -9,8 +9,8 @@ use Rattle.bases.specs.Letter.{basesOf}
 use Rattle.bases.specs.Nearest.{upper}
 use Rattle.bases.proofs.LetterLaws.{bases-length}
 use Rattle.bases.proofs.NearestLaws.{read-same, read-other, upper-stop, upper-more, upper-end}
-use Rattle.bases.proofs.period.first_difference.Statement.{statement}
-use Rattle.bases.proofs.period.first_difference.Tie as tie
+use Rattle.bases.proofs.reference.first_difference.Statement.{statement}
+use Rattle.bases.proofs.reference.first_difference.Tie as tie
 
 abbrev Inv-loop : tie.InvT-loop
 Inv-loop stretch q from n i₀ i = upper q (basesOf stretch) i (n - i) ≡ upper q (basesOf stretch) from (n - from)

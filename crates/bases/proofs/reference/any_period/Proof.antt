@@ -1,4 +1,4 @@
--- `bases::period::has_any_period` meets its contract. The loop's invariant: there is a period in 1 .. g exactly if there is one
+-- `bases::reference::any_period` meets its contract. The loop's invariant: there is a period in 1 .. g exactly if there is one
 -- in 1 .. q, and the place has a base q behind it, or is 0. The measure is q. Assumes nothing.
 use mathlib.Core.Path.{_≡_, refl, sym, ap, _∙_}
 use Prim.Native.Nat.{ℕ, _+_, _-_, _≤_}
@@ -9,8 +9,8 @@ use Rattle.bases.specs.Period.{anyPeriod?}
 use Rattle.bases.proofs.LetterLaws.{bases-length}
 use Rattle.bases.proofs.NearestLaws.{nearest-none, nearest-some}
 use Rattle.bases.proofs.PeriodLaws.{period-past, any-period-zero, any-period-stop, any-period-more}
-use Rattle.bases.proofs.period.has_any_period.Statement.{statement}
-use Rattle.bases.proofs.period.has_any_period.Tie as tie
+use Rattle.bases.proofs.reference.any_period.Statement.{statement}
+use Rattle.bases.proofs.reference.any_period.Tie as tie
 
 abbrev Inv-loop : tie.InvT-loop
 Inv-loop stretch g at₀ q₀ at q = (at ≤ length stretch - (q + 1)) × (anyPeriod? q (basesOf stretch) ≡ anyPeriod? g (basesOf stretch))
@@ -59,8 +59,8 @@ returns-3 c =
     let e : l .q ≡ 0 = omega arith in
     sym (any-period-zero (basesOf s)) ∙ sym (ap (λ (k : ℕ). anyPeriod? k (basesOf s)) e) ∙ l .inv .1
 
-pub has-any-period-spec : {M : Type 1} → statement M
-has-any-period-spec =
+pub any-period-spec : {M : Type 1} → statement M
+any-period-spec =
     tie.close
     (tie.spec
     Inv-loop
