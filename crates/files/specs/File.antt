@@ -15,6 +15,6 @@ chromName = 99 ∷ 104 ∷ 114 ∷ 49 ∷ []
 abbrev pub endsInLf? : List ℕ → Bool
 endsInLf? file = ltb 0 (length file) && eqb (getD file (length file - 1) 0) LF
 
--- The file without its last byte.
-abbrev pub basesOfFile : List ℕ → List ℕ
-basesOfFile file = take (length file - 1) file
+-- The reference that the file holds: all but its last byte.
+abbrev pub referenceIn : List ℕ → List ℕ
+referenceIn file = take (length file - 1) file

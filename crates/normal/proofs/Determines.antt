@@ -8,7 +8,7 @@ use Rattle.normal.proofs.cut.cuts_of.Reads as cuts-of
 use Rattle.normal.proofs.entry.normal_entry.Kinds as normal-entry-kinds
 use Rattle.normal.proofs.entry.normal_entry.Reads as normal-entry
 
-pub cuts-of-determines : OneResult 4 cuts-of-kinds.ps cuts-of-kinds.r cuts-of.Post
+pub cuts-of-determines : OneResult 3 cuts-of-kinds.ps cuts-of-kinds.r cuts-of.Post
 cuts-of-determines κs a z z′ e e′ p q = p ∙ sym q
 
 pub normal-entry-determines : OneResult 2 normal-entry-kinds.ps normal-entry-kinds.r normal-entry.Post

@@ -18,6 +18,7 @@ use lib.Seq.{length-take-le}
 use Rattle.bases.specs.declared.place.Place.{Place}
 use Rattle.bases.specs.Letter.{basesOf}
 use Rattle.bases.specs.Pick.{pick}
+use Rattle.bases.specs.Stretch.{stretch}
 use Rattle.vcf.specs.declared.entry.Part.{Part}
 use Rattle.vcf.specs.declared.entry.Entry.{Entry}
 use Rattle.vcf.specs.Entry.{part, bytesOf}
@@ -71,19 +72,19 @@ last-three r s a text p q true = refl
 last-three r s a text p q false = twin-cuts r s a (basesOf (bytesOf text p))
 
 -- REF of an entry, off the reference.
-abbrev pub refBytes : List ℕ → Entry → List ℕ
-refBytes reference e = bytesOf reference (part (startOf e .0) (e .reference .len))
+abbrev pub refOf : List ℕ → Entry → List ℕ
+refOf reference e = stretch reference (startOf e .0) (e .reference .len)
 
 pub entry-three : (reference text : List ℕ) (e : Entry)
-    → cutsOf (basesOf reference) (three (startOf e) (basesOf (refBytes reference e)) (basesOf (bytesOf text (e .first))) (basesOf (bytesOf text (lastAlt e))))
-    ≡ cutsOf (basesOf reference) (formOf reference text e)
+    → cutsOf reference (three (startOf e) (refOf reference e) (basesOf (bytesOf text (e .first))) (basesOf (bytesOf text (lastAlt e))))
+    ≡ cutsOf reference (formOf reference text e)
 entry-three reference text e =
-    last-three (basesOf reference) (startOf e) (basesOf (refBytes reference e)) text (e .first) (e .second) (eqb (e .alts) 2)
+    last-three reference (startOf e) (refOf reference e) text (e .first) (e .second) (eqb (e .alts) 2)
 
-pub entry-cuts-are : (reference text : List ℕ) (e : Entry) {s : Place} {a b c : List ℕ} {l : Part} {k : Cuts} → s ≡ startOf e
-    → a ≡ bytesOf reference (part (s .0) (e .reference .len)) → b ≡ bytesOf text (e .first) → l ≡ lastAlt e → c ≡ bytesOf text l
-    → k ≡ cutsOf (basesOf reference) (three s (basesOf a) (basesOf b) (basesOf c)) → k ≡ cutsOf (basesOf reference) (formOf reference text e)
-entry-cuts-are reference text e es ea eb el ec ek = let t = entry-three reference text e in cc
+pub entry-cuts-are : (reference text : List ℕ) (e : Entry) {s : Place} {b c : List ℕ} {l : Part} {k : Cuts} → s ≡ startOf e
+    → b ≡ bytesOf text (e .first) → l ≡ lastAlt e → c ≡ bytesOf text l
+    → k ≡ cutsOf reference (three s (stretch reference (s .0) (e .reference .len)) (basesOf b) (basesOf c)) → k ≡ cutsOf reference (formOf reference text e)
+entry-cuts-are reference text e es eb el ec ek = let t = entry-three reference text e in cc
 
 -- How much is cut off an entry at most.
 pub record Bounds (k : Cuts) (e : Entry) : Type 0 where
@@ -94,14 +95,14 @@ pub record Bounds (k : Cuts) (e : Entry) : Type 0 where
   pub back : k .back ≤ startOf e .0 + k .shortest - 1
   pub front : k .front ≤ k .shortest - (k .back + 1)
 
-pub bounds : (reference text : List ℕ) (e : Entry) → Stands reference text e → (k : Cuts) → k ≡ cutsOf (basesOf reference) (formOf reference text e) → Bounds k e
+pub bounds : (reference text : List ℕ) (e : Entry) → Stands reference text e → (k : Cuts) → k ≡ cutsOf reference (formOf reference text e) → Bounds k e
 bounds reference text e st k h =
     let f = formOf reference text e in
     let m : k .shortest ≡ shortest (f .ref) (f .alts) = ap (λ (z : Cuts). z .shortest) h in
-    let q : k .back ≡ cutOf (basesOf reference) f = ap (λ (z : Cuts). z .back) h in
-    let t : k .front ≡ trimOf f (cutOf (basesOf reference) f) = ap (λ (z : Cuts). z .front) h in
-    let least : k .shortest ≡ min (length (bytesOf text (e .first))) (min (length (bytesOf text (lastAlt e))) (length (refBytes reference e))) =
-    m ∙ ap (λ (z : Cuts). z .shortest) (sym (entry-three reference text e)) ∙ three-shortest (refBytes reference e) (bytesOf text (e .first)) (bytesOf text (lastAlt e)) in
+    let q : k .back ≡ cutOf reference f = ap (λ (z : Cuts). z .back) h in
+    let t : k .front ≡ trimOf f (cutOf reference f) = ap (λ (z : Cuts). z .front) h in
+    let least : k .shortest ≡ min (length (bytesOf text (e .first))) (min (length (bytesOf text (lastAlt e))) (length (refOf reference e))) =
+    m ∙ ap (λ (z : Cuts). z .shortest) (sym (entry-three reference text e)) ∙ three-shortest (refOf reference e) (bytesOf text (e .first)) (bytesOf text (lastAlt e)) in
     let a = part-length reference (part (startOf e .0) (e .reference .len)) (st .on) in
     let b = part-length text (e .first) (st .first) in
     let d = part-length text (lastAlt e) (st .second) in
@@ -110,15 +111,15 @@ bounds reference text e st k h =
       ref = omega arith;
       first = omega arith;
       second = omega arith;
-      back = omega (arith, run-le (backAlike? (basesOf reference) f) (startOf e .0 + shortest (f .ref) (f .alts) - 1));
-      front = omega (arith, run-le (frontAlike? f) (shortest (f .ref) (f .alts) - (cutOf (basesOf reference) f + 1)));
+      back = omega (arith, run-le (backAlike? reference f) (startOf e .0 + shortest (f .ref) (f .alts) - 1));
+      front = omega (arith, run-le (frontAlike? f) (shortest (f .ref) (f .alts) - (cutOf reference f + 1)));
     }
 
 pub spelled-is : (k : Cuts) (p : Part) {front at len : ℕ} → front ≡ takenIn k - (k .back - p .len) → at ≡ p .at + k .front → len ≡ p .len - (k .back + k .front)
     → _≡_ {A = Spelled} record { front = front; own = part at len } (spelled k p)
 spelled-is k p ef ea el = cc
 
-pub normal-entry-of : (reference text : List ℕ) (e : Entry) (s : Place) (k : Cuts) (g : ℕ) (a b : Spelled) → s ≡ startOf e → k ≡ cutsOf (basesOf reference) (formOf reference text e) → g ≡ takenIn k
+pub normal-entry-of : (reference text : List ℕ) (e : Entry) (s : Place) (k : Cuts) (g : ℕ) (a b : Spelled) → s ≡ startOf e → k ≡ cutsOf reference (formOf reference text e) → g ≡ takenIn k
     → a ≡ spelled k (e .first) → b ≡ spelled k (lastAlt e)
     → record { start = record { 0 = s .0 + k .front - g }; span = s .0 + e .reference .len - k .back - (s .0 + k .front - g); first = a; second = b } ≡ normalEntry reference text e
 unfolding normalEntry

@@ -3,22 +3,27 @@
 --     extended-length, extended-front, extended-own
 --                          the allele with all that stands before it: its length, and base by base
 --     back-own, back-front the base k before its last: its own, or of the reference
---     own-read, front-read the same, by the letter that is read there
+--     own-read, front-read the same of a part of a text: the letter there, or a base of the reference
+--     ref-at, ref-read     of REF: bases of the reference
 --     kept-length          what is left of that
 --     between-length, between-first, between-last
 --                          what is left from p on: its length, its first base and its last
 --     cut-same             where two alleles are alike at every place cut off, what is cut off is the same
 -- Assumes nothing.
 use mathlib.Core.List.{List, _++_}
+use mathlib.Core.Logic.{⊎-elim}
 use mathlib.Core.Path.{_≡_, sym, ap, _∙_}
 use Prim.Native.Nat.{ℕ, _+_, _-_, _≤_, _<_}
 use native.Mathlib.Omega.{arith}
 use lib.ListN.{length, getD, take, drop, length-append, length-drop, List·getD-append}
 use lib.Seq.{length-take-le, getD-append-add, getD-drop, getD-take, ext-getD}
 use Rattle.bases.specs.Letter.{letterOf, basesOf}
+use Rattle.bases.specs.Stretch.{stretch}
 use Rattle.bases.proofs.LetterLaws.{bases-length, bases-at}
+use Rattle.bases.proofs.StretchLaws.{stretch-length}
 use Rattle.normal.specs.Form.{first, last}
 use Rattle.normal.specs.Cut.{backAt, between}
+use Rattle.normal.proofs.RunLaws.{le-or-lt}
 
 pub take-same : (p : ℕ) (x y : List ℕ) → p ≤ length x → p ≤ length y → ((j : ℕ) → j < p → getD x j 0 ≡ getD y j 0) → take p x ≡ take p y
 take-same p x y hx hy h =
@@ -85,17 +90,37 @@ module _ (r : List ℕ) (s : ℕ) (fits : s ≤ length r) (a b : List ℕ) (q : 
       at j l = read a ha j l ∙ h (q - (j + 1)) (omega arith) ∙ sym (read b hb j l)
 
 module _ (r : List ℕ) (s : ℕ) (fits : s ≤ length r) (a : List ℕ) (k : ℕ) where
-  fits-bases : s ≤ length (basesOf r)
-  fits-bases = rw bases-length fits
-
-  pub own-read : {x : ℕ} → k < length a → x ≡ letterOf (getD a (length a - k - 1) 0) → x ≡ backAt (basesOf r) s k (basesOf a)
-  own-read h e =
+  pub own-read : k < length a → backAt r s k (basesOf a) ≡ letterOf (getD a (length a - k - 1) 0)
+  own-read h =
       let l = bases-length a in
-      let b = back-own (basesOf r) s fits-bases (basesOf a) k (omega arith) in
+      let b = back-own r s fits (basesOf a) k (omega arith) in
       cc (bases-at a (length a - k - 1))
 
-  pub front-read : {x : ℕ} → length a ≤ k → k < s + length a → x ≡ letterOf (getD r (s - (k - length a) - 1) 0) → x ≡ backAt (basesOf r) s k (basesOf a)
-  front-read h i e =
+  pub front-read : length a ≤ k → k < s + length a → backAt r s k (basesOf a) ≡ getD r (s - (k - length a) - 1) 0
+  front-read h i =
       let l = bases-length a in
-      let b = back-front (basesOf r) s fits-bases (basesOf a) k (omega arith) (omega arith) in
-      cc (bases-at r (s - (k - length a) - 1))
+      let b = back-front r s fits (basesOf a) k (omega arith) (omega arith) in
+      cc
+
+-- REF is n bases of the reference: with all that stands before it, it is the reference up to where it ends.
+module _ (r : List ℕ) (s n : ℕ) (within : s + n ≤ length r) where
+  pub ref-at : (j : ℕ) → j < n → getD (stretch r s n) j 0 ≡ getD r (s + j) 0
+  ref-at j h = getD-take n (drop s r) j 0 h ∙ getD-drop s r j 0
+
+  ref-length : length (stretch r s n) ≡ n
+  ref-length = stretch-length r s n within
+
+  pub ref-read : (k : ℕ) → k < s + n → backAt r s k (stretch r s n) ≡ getD r (s + n - k - 1) 0
+  ref-read k h = ⊎-elim front own (le-or-lt n k)
+    where
+      front : n ≤ k → backAt r s k (stretch r s n) ≡ getD r (s + n - k - 1) 0
+      front g =
+          let l = ref-length in
+          let d : s - (k - length (stretch r s n)) - 1 ≡ s + n - k - 1 = omega arith in
+          back-front r s (omega arith) (stretch r s n) k (omega arith) (omega arith) ∙ ap (λ (i : ℕ). getD r i 0) d
+
+      own : k < n → backAt r s k (stretch r s n) ≡ getD r (s + n - k - 1) 0
+      own g =
+          let l = ref-length in
+          let d : s + (length (stretch r s n) - k - 1) ≡ s + n - k - 1 = omega arith in
+          back-own r s (omega arith) (stretch r s n) k (omega arith) ∙ ref-at (length (stretch r s n) - k - 1) (omega arith) ∙ ap (λ (i : ℕ). getD r i 0) d

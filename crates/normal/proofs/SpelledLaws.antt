@@ -1,6 +1,6 @@
 -- What the numbers of a normal form spell.
 --     Numbers, numbers     how the numbers hang together: the new start, the bases of the reference, and those of the part
---     spelled-between      so many bytes of the reference and of the part spell what the closed form leaves of the allele
+--     spelled-between      so many bases of the reference and of the part are what the closed form leaves of the allele
 -- Assumes nothing.
 use mathlib.Core.List.{List, _++_}
 use mathlib.Core.Logic.{⊎-elim}
@@ -10,6 +10,7 @@ use native.Mathlib.Omega.{arith}
 use lib.ListN.{length, getD, take, drop, length-append, length-drop, List·getD-append}
 use lib.Seq.{length-take-le, getD-append-add, getD-drop, getD-take, ext-getD}
 use Rattle.bases.specs.Letter.{letterOf, basesOf}
+use Rattle.bases.specs.Stretch.{stretch}
 use Rattle.bases.proofs.LetterLaws.{bases-length, bases-at}
 use Rattle.vcf.specs.declared.entry.Part.{Part}
 use Rattle.vcf.specs.Entry.{bytesOf}
@@ -46,10 +47,10 @@ numbers s m l q t a b c d = ⊎-elim inside (λ h. numbers-out s m l q t b (omeg
 
 module _ (reference text : List ℕ) (s : ℕ) (p : Part) (q t n g own : ℕ) (fits : s ≤ length reference) (within : Within text p) (num : Numbers s (p .len) q t n g own) where
   front : List ℕ
-  front = take g (drop n reference)
+  front = stretch reference n g
 
   rest : List ℕ
-  rest = take own (drop (p .at + t) text)
+  rest = basesOf (take own (drop (p .at + t) text))
 
   front-length : length front ≡ g
   unfolding front
@@ -57,7 +58,7 @@ module _ (reference text : List ℕ) (s : ℕ) (p : Part) (q t n g own : ℕ) (f
 
   rest-length : length rest ≡ own
   unfolding rest
-  rest-length = length-take-le own (drop (p .at + t) text) (rw length-drop (omega arith))
+  rest-length = bases-length (take own (drop (p .at + t) text)) ∙ length-take-le own (drop (p .at + t) text) (rw length-drop (omega arith))
 
   a : List ℕ
   a = basesOf (bytesOf text p)
@@ -71,13 +72,13 @@ module _ (reference text : List ℕ) (s : ℕ) (p : Part) (q t n g own : ℕ) (f
   at-front j l =
       List·getD-append front rest 0 j (omega (arith, front-length)) ∙ getD-take g (drop n reference) j 0 l ∙ getD-drop n reference j 0
 
-  at-rest : (j : ℕ) → j < own → getD (front ++ rest) (g + j) 0 ≡ getD text (p .at + t + j) 0
+  at-rest : (j : ℕ) → j < own → getD (front ++ rest) (g + j) 0 ≡ letterOf (getD text (p .at + t + j) 0)
   unfolding rest
   at-rest j l =
       ap (λ (z : ℕ). getD (front ++ rest) (z + j) 0) (sym front-length)
       ∙ getD-append-add front rest j 0
-      ∙ getD-take own (drop (p .at + t) text) j 0 l
-      ∙ getD-drop (p .at + t) text j 0
+      ∙ bases-at (take own (drop (p .at + t) text)) j
+      ∙ ap letterOf (getD-take own (drop (p .at + t) text) j 0 l ∙ getD-drop (p .at + t) text j 0)
 
   at-own : (j : ℕ) → j < p .len → getD a j 0 ≡ letterOf (getD text (p .at + j) 0)
   unfolding a
@@ -86,33 +87,33 @@ module _ (reference text : List ℕ) (s : ℕ) (p : Part) (q t n g own : ℕ) (f
   kept : n + q < s + length a
   kept = omega (arith, a-length)
 
-  same-front : (j : ℕ) → j < g → letterOf (getD (front ++ rest) j 0) ≡ getD (between (basesOf reference) s q n a) j 0
+  same-front : (j : ℕ) → j < g → getD (front ++ rest) j 0 ≡ getD (between reference s q n a) j 0
   same-front j l =
-      let b = between-at (basesOf reference) s (rw bases-length fits) a q n kept j (omega (arith, a-length)) in
-      let e = extended-front (basesOf reference) s (rw bases-length fits) a (n + j) (omega arith) in
-      cc (at-front j l, bases-at reference (n + j))
+      let b = between-at reference s fits a q n kept j (omega (arith, a-length)) in
+      let e = extended-front reference s fits a (n + j) (omega arith) in
+      cc (at-front j l)
 
-  same-rest : (j : ℕ) → j < own → letterOf (getD (front ++ rest) (g + j) 0) ≡ getD (between (basesOf reference) s q n a) (g + j) 0
+  same-rest : (j : ℕ) → j < own → getD (front ++ rest) (g + j) 0 ≡ getD (between reference s q n a) (g + j) 0
   same-rest j l =
-      let b = between-at (basesOf reference) s (rw bases-length fits) a q n kept (g + j) (omega (arith, a-length)) in
+      let b = between-at reference s fits a q n kept (g + j) (omega (arith, a-length)) in
       let i : n + (g + j) ≡ s + (t + j) = omega (arith, num .joint (omega arith)) in
-      let e = extended-own (basesOf reference) s (rw bases-length fits) a (t + j) in
+      let e = extended-own reference s fits a (t + j) in
       let d : p .at + t + j ≡ p .at + (t + j) = omega arith in
       cc (at-rest j l, at-own (t + j) (omega arith))
 
-  spelled-length : length (basesOf (front ++ rest)) ≡ length (between (basesOf reference) s q n a)
+  spelled-length : length (front ++ rest) ≡ length (between reference s q n a)
   spelled-length =
-      bases-length (front ++ rest) ∙ length-append front rest
-      ∙ omega (arith, front-length, rest-length, a-length, between-length (basesOf reference) s (rw bases-length fits) a q n kept)
+      length-append front rest
+      ∙ omega (arith, front-length, rest-length, a-length, between-length reference s fits a q n kept)
 
-  pub spelled-between : basesOf (take g (drop n reference) ++ take own (drop (p .at + t) text)) ≡ between (basesOf reference) s q n (basesOf (bytesOf text p))
+  pub spelled-between : stretch reference n g ++ basesOf (take own (drop (p .at + t) text)) ≡ between reference s q n (basesOf (bytesOf text p))
   unfolding front rest a
-  spelled-between = ext-getD 0 (basesOf (front ++ rest)) (between (basesOf reference) s q n a) spelled-length same
+  spelled-between = ext-getD 0 (front ++ rest) (between reference s q n a) spelled-length same
     where
-      same : (j : ℕ) → j < length (basesOf (front ++ rest)) → getD (basesOf (front ++ rest)) j 0 ≡ getD (between (basesOf reference) s q n a) j 0
-      same j l = bases-at (front ++ rest) j ∙ ⊎-elim behind (same-front j) (le-or-lt g j)
+      same : (j : ℕ) → j < length (front ++ rest) → getD (front ++ rest) j 0 ≡ getD (between reference s q n a) j 0
+      same j l = ⊎-elim behind (same-front j) (le-or-lt g j)
         where
-          behind : g ≤ j → letterOf (getD (front ++ rest) j 0) ≡ getD (between (basesOf reference) s q n a) j 0
+          behind : g ≤ j → getD (front ++ rest) j 0 ≡ getD (between reference s q n a) j 0
           behind h =
               let e : g + (j - g) ≡ j = omega arith in
-              rw (← e) (same-rest (j - g) (omega (arith, bases-length (front ++ rest), length-append front rest, front-length, rest-length)))
+              rw (← e) (same-rest (j - g) (omega (arith, length-append front rest, front-length, rest-length)))

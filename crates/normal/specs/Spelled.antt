@@ -3,9 +3,10 @@
 use mathlib.Core.List.{List, [], _∷_, _++_}
 use Prim.Native.Nat.{ℕ, _+_, _-_, _≤_}
 use lib.Dec.{eqb}
-use lib.ListN.{length, take, drop}
+use lib.ListN.{length}
 use Rattle.bases.specs.Letter.{basesOf}
 use Rattle.bases.specs.Pick.{pick}
+use Rattle.bases.specs.Stretch.{stretch}
 use Rattle.bases.specs.declared.place.Place.{Place}
 use Rattle.bases.specs.Place.{placeOf}
 use Rattle.vcf.specs.declared.entry.Part.{Part}
@@ -54,7 +55,7 @@ abbrev pub formOf : List ℕ → List ℕ → Entry → Form
 formOf reference text e =
     record {
       start = startOf e;
-      ref = basesOf (bytesOf reference (part (startOf e .0) (e .reference .len)));
+      ref = stretch reference (startOf e .0) (e .reference .len);
       alts =
           pick (eqb (e .alts) 2)
           (basesOf (bytesOf text (e .first)) ∷ basesOf (bytesOf text (e .second)) ∷ [])
@@ -76,7 +77,7 @@ pub record Stands (reference text : List ℕ) (e : Entry) : Type 0 where
 unfoldable pub normalEntry : List ℕ → List ℕ → Entry → NormalEntry
 normalEntry reference text e =
     let f = formOf reference text e in
-    let c = cutsOf (basesOf reference) f in
+    let c = cutsOf reference f in
     record {
       start = newStart f (c .back) (c .front);
       span = startOf e .0 + e .reference .len - c .back - newStart f (c .back) (c .front) .0;
@@ -84,9 +85,9 @@ normalEntry reference text e =
       second = spelled c (lastAlt e);
     }
 
--- The bytes of an allele of it, where it starts at p.
-abbrev pub bytesSpelled : List ℕ → List ℕ → Place → Spelled → List ℕ
-bytesSpelled reference text p a = take (a .front) (drop (p .0) reference) ++ bytesOf text (a .own)
+-- The bases of an allele of it, where it starts at p.
+abbrev pub basesSpelled : List ℕ → List ℕ → Place → Spelled → List ℕ
+basesSpelled reference text p a = stretch reference (p .0) (a .front) ++ basesOf (bytesOf text (a .own))
 
 -- Its bases of the reference stand on the reference, and its own in the text.
 abbrev pub OnBoth : List ℕ → List ℕ → Place → Spelled → Type 0
@@ -97,9 +98,9 @@ abbrev pub formSpelled : List ℕ → List ℕ → ℕ → NormalEntry → Form
 formSpelled reference text alts n =
     record {
       start = n .start;
-      ref = basesOf (bytesOf reference (part (n .start .0) (n .span)));
+      ref = stretch reference (n .start .0) (n .span);
       alts =
           pick (eqb alts 2)
-          (basesOf (bytesSpelled reference text (n .start) (n .first)) ∷ basesOf (bytesSpelled reference text (n .start) (n .second)) ∷ [])
-          (basesOf (bytesSpelled reference text (n .start) (n .first)) ∷ []);
+          (basesSpelled reference text (n .start) (n .first) ∷ basesSpelled reference text (n .start) (n .second) ∷ [])
+          (basesSpelled reference text (n .start) (n .first) ∷ []);
     }

@@ -90,23 +90,21 @@ fn last_alt(entry: Entry) -> Part
 // What is cut off the alleles of an entry that starts at `start`.
 fn entry_cuts(reference: &[u8], text: &[u8], entry: Entry, start: Place) -> Cuts
     requires { ⌜
-        Stands (now reference) (now text) entry
+        Stands (basesOf (now reference)) (now text) entry
         × (start ≡ startOf entry)
         ⌝ }
-    ensures { λ r. ⌜ r ≡ cutsOf (basesOf (now (reference .entry))) (formOf (now (reference .entry)) (now (text .entry)) entry) ⌝ }
+    ensures { λ r. ⌜ r ≡ cutsOf (basesOf (now (reference .entry))) (formOf (basesOf (now (reference .entry))) (now (text .entry)) entry) ⌝ }
 {
     let ref_part = entry.reference;
-    let len = ref_part.len;
-    let bases = bytes_of(reference, Part { at: start.0, len });
     let first = bytes_of(text, entry.first);
     let last = bytes_of(text, last_alt(entry));
-    cuts_of(reference, start, bases, first, last)
+    cuts_of(reference, start, ref_part.len, first, last)
 }
 
 // The normal form of an entry that stands on the reference and in the text.
 pub fn normal_entry(reference: &[u8], text: &[u8], entry: Entry) -> NormalEntry
-    requires { ⌜ Stands (now reference) (now text) entry ⌝ }
-    ensures { λ r. ⌜ r ≡ normalEntry (now (reference .entry)) (now (text .entry)) entry ⌝ }
+    requires { ⌜ Stands (basesOf (now reference)) (now text) entry ⌝ }
+    ensures { λ r. ⌜ r ≡ normalEntry (basesOf (now (reference .entry))) (now (text .entry)) entry ⌝ }
 {
     let pos = entry.pos;
     let start = place_of(pos);

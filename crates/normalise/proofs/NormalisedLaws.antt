@@ -11,6 +11,7 @@ use Prim.Native.Nat.{ℕ, _≤_}
 use borrow.Author.Tests.{eqb-true, le-ltb}
 use lib.Dec.{eqb}
 use lib.ListN.{length}
+use Rattle.bases.specs.Letter.{basesOf}
 use Rattle.bases.specs.Pick.{pick}
 use Rattle.bases.specs.Put.{put}
 use Rattle.card.specs.declared.answer.Answer.{Answer}
@@ -19,7 +20,7 @@ use Rattle.card.specs.Answer.{answer, refusedAnswer, answerOf}
 use Rattle.card.specs.Normal.{normalRefusal, written, normalAfter}
 use Rattle.card.specs.Refusal.{listChecks}
 use Rattle.card.proofs.NormalLaws.{normal-refused, normal-given}
-use Rattle.files.specs.File.{endsInLf?, basesOfFile}
+use Rattle.files.specs.File.{endsInLf?, referenceIn}
 use Rattle.lines.specs.Lines.{largestNumber, refusedText}
 use Rattle.written.specs.Written.{writtenText}
 use Rattle.told.proofs.PrintableLaws.{list-printable}
@@ -28,7 +29,7 @@ use Rattle.normalise.specs.Normalised.{listRefusal, normalisedText}
 
 pub normalised-open : (file name text : List ℕ) → endsInLf? file ≡ false → normalisedText file name text ≡ refusedText 1 0 0 0
 unfolding normalisedText
-normalised-open file name text e = rw (file-open file (listChecks (basesOfFile file) name text false) e)
+normalised-open file name text e = rw (file-open file (listChecks (referenceIn file) name text false) e)
 
 -- An answer has the number of its refusal.
 answer-number : (r : Refusal) (v : ℕ) → answerOf r v .number ≡ r .number
@@ -39,9 +40,9 @@ answer-number r v = go (eqb (r .number) 0) refl
     go false e = refl
 
 module _ (file name text out : List ℕ) (ends : endsInLf? file ≡ true) (roomy : length text ≤ length out) (a : Answer)
-    (answered : a ≡ written (basesOfFile file) name text (length out)) where
+    (answered : a ≡ written (referenceIn file) name text (length out)) where
   abbrev reference : List ℕ
-  reference = basesOfFile file
+  reference = referenceIn file
 
   abbrev r : Refusal
   r = normalRefusal reference name text (length out)
@@ -51,7 +52,7 @@ module _ (file name text out : List ℕ) (ends : endsInLf? file ≡ true) (roomy
   same = rw (le-ltb (length out) (length text) roomy) (sym (file-past file (listChecks reference name text false) ends))
 
   number-same : a .number ≡ r .number
-  number-same = ap (λ (x : Answer). x .number) answered ∙ answer-number r (length (writtenText reference text))
+  number-same = ap (λ (x : Answer). x .number) answered ∙ answer-number r (length (writtenText (basesOf reference) text))
 
   module _ (n : a .number ≢ 0) where
     refused : (written reference name text (length out) ≡ refusedAnswer r) × (normalAfter reference name text out ≡ out)
@@ -63,15 +64,15 @@ module _ (file name text out : List ℕ) (ends : endsInLf? file ≡ true) (roomy
     pub answer-printable : (a .number ≤ largestNumber) × (a .list ≤ largestNumber) × (a .line ≤ largestNumber) × (a .place ≤ largestNumber)
     answer-printable = numbers-printable (a .number) (a .list) (a .line) (a .place) (listRefusal file name text) tells (list-printable file reference name text false)
 
-    pub text-refused : (normalisedText file name text ≡ refusedText (a .number) (a .list) (a .line) (a .place)) × (normalAfter (basesOfFile file) name text out ≡ out)
+    pub text-refused : (normalisedText file name text ≡ refusedText (a .number) (a .list) (a .line) (a .place)) × (normalAfter (referenceIn file) name text out ≡ out)
     unfolding normalisedText
-    text-refused = (numbers-refused (a .number) (a .list) (a .line) (a .place) (listRefusal file name text) tells (writtenText reference text) n, refused .1)
+    text-refused = (numbers-refused (a .number) (a .list) (a .line) (a .place) (listRefusal file name text) tells (writtenText (basesOf reference) text) n, refused .1)
 
   pub text-given : a .number ≡ 0
-      → (a .value ≡ length (normalisedText file name text)) × (normalAfter (basesOfFile file) name text out ≡ put out 0 (normalisedText file name text))
+      → (a .value ≡ length (normalisedText file name text)) × (normalAfter (referenceIn file) name text out ≡ put out 0 (normalisedText file name text))
   unfolding normalisedText
   text-given z =
       let zero : r .number ≡ 0 = sym number-same ∙ z in
       let given = normal-given reference name text out zero in
-      let told = told-text (listRefusal file name text) (writtenText reference text) (sym (ap (λ (x : Refusal). x .number) same) ∙ zero) in
+      let told = told-text (listRefusal file name text) (writtenText (basesOf reference) text) (sym (ap (λ (x : Refusal). x .number) same) ∙ zero) in
       (ap (λ (x : Answer). x .value) (answered ∙ given .0) ∙ ap length (sym told), given .1 ∙ ap (put out 0) (sym told))

@@ -16,10 +16,14 @@ use native.Mathlib.Decide.{ℕ-discrete}
 use native.Mathlib.Omega.{arith}
 use borrow.Author.Tests.{lt-leb, le-leb, eq-eqb, ne-eqb, not-false}
 use lib.Dec.{T, eqb, leb, eqb→eq, leb→le}
-use lib.ListN.{length, getD, take, drop}
+use lib.ListN.{length, getD}
 use Rattle.bases.specs.declared.place.Pos.{Pos}
 use Rattle.bases.specs.Place.{placeOf}
-use Rattle.bases.specs.Same.{sameBases?}
+use Rattle.bases.specs.Letter.{basesOf}
+use Rattle.bases.specs.Same.{agree?}
+use Rattle.bases.specs.Stretch.{stretch}
+use Rattle.bases.proofs.LetterLaws.{bases-length}
+use Rattle.bases.proofs.StretchLaws.{stretch-same}
 use Rattle.bases.proofs.TestLaws.{both, of-true}
 use Rattle.fields.specs.Allele.{altCount}
 use Rattle.fields.specs.declared.field.Fields.{Fields}
@@ -80,8 +84,9 @@ no-alt g w = rw (zero-digit (getD g 0 0) (w .first), zero-digit (getD g 2 0) (w 
 pub off-past : (r : List ℕ) (pos : Pos) (a : List ℕ) → length r < placeOf pos .0 + length a → offReference? r pos a ≡ true
 off-past r pos a h = rw (lt-leb _ _ h)
 
-pub off-within : (r : List ℕ) (pos : Pos) (a : List ℕ) → placeOf pos .0 + length a ≤ length r → offReference? r pos a ≡ not (sameBases? a (take (length a) (drop (placeOf pos .0) r)))
-off-within r pos a h = rw (le-leb _ _ h)
+pub off-within : (r : List ℕ) (pos : Pos) (a : List ℕ) → placeOf pos .0 + length a ≤ length r
+    → not (agree? (stretch r (placeOf pos .0) (length a)) (stretch (basesOf a) 0 (length a))) ≡ offReference? r pos a
+off-within r pos a h = rw (le-leb _ _ h) (ap not (stretch-same r (basesOf a) (placeOf pos .0) (length a) h (bases-length a)))
 
 -- where no row of a record's line holds, the line has its ten fields
 pub record-ten : (r name : List ℕ) (records : ℕ) (last : Pos) (l : List ℕ) → firstRow (recordRows r name records last l) .number ≡ 0 → T (tenFields? l)

@@ -9,11 +9,12 @@ use Prim.Native.Nat.{ℕ, _+_, _≤_}
 use native.Mathlib.Omega.{arith}
 use borrow.Author.Tests.{eqb-false, ltb-false, not-false}
 use lib.Dec.{T, leb, leb→le}
-use lib.ListN.{length, take, drop}
+use lib.ListN.{length}
 use Rattle.bases.specs.declared.place.Pos.{Pos}
 use Rattle.bases.specs.Place.{placeOf}
 use Rattle.bases.specs.Letter.{basesOf}
-use Rattle.bases.specs.Same.{sameBases?}
+use Rattle.bases.specs.Same.{same?}
+use Rattle.bases.specs.Stretch.{stretch}
 use Rattle.bases.proofs.FirstLaws.{NoneHolds, none-join}
 use Rattle.bases.proofs.SameLaws.{same-iff}
 use Rattle.bases.proofs.TestLaws.{of-true, both}
@@ -33,17 +34,17 @@ pub record RecordLine (reference l : List ℕ) : Type 0 where
   pub copied : noAlt? l ≡ false
   -- REF equals the reference at POS
   pub within : placeOf (posOn l) .0 + length (field 3 l) ≤ length reference
-  pub same : basesOf (field 3 l) ≡ basesOf (take (length (field 3 l)) (drop (placeOf (posOn l) .0) reference))
+  pub same : basesOf (field 3 l) ≡ stretch reference (placeOf (posOn l) .0) (length (field 3 l))
 
 pub record-line : (reference name : List ℕ) (records : ℕ) (last : Pos) (l : List ℕ) → NoneHolds (recordRows reference name records last l) → RecordLine reference l
 record-line reference name records last l z =
     let ref = field 3 l in
-    let at = take (length ref) (drop (placeOf (posOn l) .0) reference) in
+    let at = stretch reference (placeOf (posOn l) .0) (length ref) in
     let rows = z .1 .1 .1 in
     let alt = none-join (altRows l) (laterRows reference last l) .0 (rows .1 .1 .1 .1) in
     let behind = alt .1 in
-    let on = both (leb (placeOf (posOn l) .0 + length ref) (length reference)) (sameBases? ref at) .0
-    (of-true (not-false (leb (placeOf (posOn l) .0 + length ref) (length reference) && sameBases? ref at) (behind .1 .1 .0))) in
+    let on = both (leb (placeOf (posOn l) .0 + length ref) (length reference)) (same? (basesOf ref) at) .0
+    (of-true (not-false (leb (placeOf (posOn l) .0 + length ref) (length reference) && same? (basesOf ref) at) (behind .1 .1 .0))) in
     let some = eqb-false (posOn l .0) 0 (rows .1 .1 .0) in
     record {
       ten = of-true (not-false (tenFields? l) (rows .0));
@@ -53,7 +54,7 @@ record-line reference name records last l z =
       genotype = behind .0;
       copied = behind .1 .0;
       within = leb→le _ _ (on .0);
-      same = same-iff (basesOf ref) (basesOf at) .0 (on .1);
+      same = same-iff (basesOf ref) at .0 (on .1);
     }
 
 pub record-order : (reference name : List ℕ) (records : ℕ) (last : Pos) (l : List ℕ) → NoneHolds (recordRows reference name records last l) → last .0 ≤ posOn l .0

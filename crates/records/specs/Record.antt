@@ -4,10 +4,12 @@ use mathlib.Core.Bool.{Bool, not, _&&_, _||_}
 use mathlib.Core.List.{List, [], _∷_, _++_}
 use Prim.Native.Nat.{ℕ, _+_}
 use lib.Dec.{eqb, leb, ltb}
-use lib.ListN.{length, take, drop}
+use lib.ListN.{length}
+use Rattle.bases.specs.Letter.{basesOf}
 use Rattle.bases.specs.declared.place.Pos.{Pos}
 use Rattle.bases.specs.Place.{placeOf}
-use Rattle.bases.specs.Same.{same?, sameBases?}
+use Rattle.bases.specs.Same.{same?}
+use Rattle.bases.specs.Stretch.{stretch}
 use Rattle.fields.specs.Allele.{isAllele?, altCount}
 use Rattle.fields.specs.Bytes.{hash, begins?}
 use Rattle.fields.specs.Field.{field, tenFields?}
@@ -50,10 +52,10 @@ genotypeWrong? l = formatWrong? (field 8 l) || copiesWrong? (altCount (field 4 l
 abbrev pub noAlt? : List ℕ → Bool
 noAlt? l = eqb (copy0 (genotypeOn l)) 0 && eqb (copy1 (genotypeOn l)) 0
 
--- Row 13: REF at this POS runs past the reference or differs from it.
+-- Row 13: REF at this POS runs past the reference or differs from it. Here and below a reference is the list of its bases.
 abbrev pub offReference? : List ℕ → Pos → List ℕ → Bool
 offReference? reference pos ref =
-    not (leb (placeOf pos .0 + length ref) (length reference) && sameBases? ref (take (length ref) (drop (placeOf pos .0) reference)))
+    not (leb (placeOf pos .0 + length ref) (length reference) && same? (basesOf ref) (stretch reference (placeOf pos .0) (length ref)))
 
 -- The rows on the fields behind ALT, and on where REF lies, behind a record at POS `last` (`noPos` where there is none).
 abbrev pub laterRows : List ℕ → Pos → List ℕ → List Row

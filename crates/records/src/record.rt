@@ -3,6 +3,7 @@ ghost use mathlib.Core.Bool.{false};
 ghost use mathlib.Core.Path.{_≡_};
 ghost use Prim.Native.Nat.{_≤_};
 ghost use lib.Dec.{T};
+ghost use Rattle.bases.specs.Letter.{basesOf};
 ghost use Rattle.fields.specs.Field.{field, tenFields?, fieldsOf};
 ghost use Rattle.records.specs.Record.{tooLong?, chromWrong?, posOn, refWrong?, genotypeWrong?, noAlt?, offReference?};
 ghost use Rattle.records.specs.Record.{laterRows, fieldRows, recordRows};
@@ -12,7 +13,8 @@ use crate::row::LineFault;
 use bases::bytes::same_bytes;
 use bases::place::Pos;
 use bases::place::place_of;
-use bases::same::same_bases;
+use bases::reference::base_count;
+use bases::reference::part_agrees;
 use fields::allele::alt_count;
 use fields::allele::is_allele;
 use fields::bytes::begins;
@@ -108,20 +110,20 @@ fn is_off_reference(reference: &[u8], pos: Pos, line: &[u8], fields: Fields) -> 
         × (fields ≡ fieldsOf (now line))
         × (1 ≤ pos .0)
         ⌝ }
-    ensures { λ r. ⌜ r ≡ offReference? (now (reference .entry)) pos (field 3 (now (line .entry))) ⌝ }
+    ensures { λ r. ⌜ r ≡ offReference? (basesOf (now (reference .entry))) pos (field 3 (now (line .entry))) ⌝ }
 {
     let at = fields.reference;
     let bases = field_from(line, at);
     let place = place_of(pos);
     let from = place.0;
-    if reference.len() < from {
+    let count = base_count(reference);
+    if count < from {
         return true;
     }
-    if reference.len() - from < bases.len() {
+    if count - from < bases.len() {
         return true;
     }
-    let end = from + bases.len();
-    !same_bases(bases, &reference[from..end])
+    !part_agrees(reference, from, bases, 0, bases.len())
 }
 
 // The first row from 11 to 14 that holds on a line of ten fields at this POS, behind a record at POS `last`; or none.
@@ -132,7 +134,7 @@ fn later_fault(reference: &[u8], pos: Pos, last: Pos, line: &[u8], fields: Field
         × (pos ≡ posOn (now line))
         × (1 ≤ pos .0)
         ⌝ }
-    ensures { λ r. ⌜ r ≡ firstRow (laterRows (now (reference .entry)) last (now (line .entry))) ⌝ }
+    ensures { λ r. ⌜ r ≡ firstRow (laterRows (basesOf (now (reference .entry))) last (now (line .entry))) ⌝ }
 {
     if genotype_wrong(line, fields) {
         return LineFault { number: 11, at: 0 };
@@ -152,7 +154,7 @@ fn later_fault(reference: &[u8], pos: Pos, last: Pos, line: &[u8], fields: Field
 // The first row that holds on the fields of a line of ten, behind a record at POS `last`; or none.
 fn field_fault(reference: &[u8], name: &[u8], last: Pos, line: &[u8]) -> LineFault
     requires { ⌜ T (tenFields? (now line)) ⌝ }
-    ensures { λ r. ⌜ r ≡ firstRow (fieldRows (now (reference .entry)) (now (name .entry)) last (now (line .entry))) ⌝ }
+    ensures { λ r. ⌜ r ≡ firstRow (fieldRows (basesOf (now (reference .entry))) (now (name .entry)) last (now (line .entry))) ⌝ }
 {
     if chrom_wrong(name, line) {
         return LineFault { number: 7, at: 0 };
@@ -180,7 +182,7 @@ pub fn record_fault(
     last: Pos,
     line: &[u8],
 ) -> LineFault
-    ensures { λ r. ⌜ r ≡ firstRow (recordRows (now (reference .entry)) (now (name .entry)) records last (now (line .entry))) ⌝ }
+    ensures { λ r. ⌜ r ≡ firstRow (recordRows (basesOf (now (reference .entry))) (now (name .entry)) records last (now (line .entry))) ⌝ }
 {
     if is_too_long(line) {
         return LineFault { number: 4, at: 0 };

@@ -16,6 +16,7 @@ use borrow.Author.Tests.{eq-eqb}
 use lib.Dec.{eqb}
 use lib.ListN.{length, take, drop, length-append, length-replicate}
 use lib.Seq.{take-append-seam}
+use Rattle.bases.specs.Letter.{basesOf}
 use Rattle.bases.specs.Pick.{pick}
 use Rattle.bases.specs.Put.{put}
 use Rattle.card.specs.declared.all.AllMarked.{AllMarked}
@@ -31,7 +32,7 @@ use Rattle.clusters.specs.declared.plan.Cluster.{Cluster}
 use Rattle.marks.specs.Marks.{clustersOf, allMarks, totalScore}
 use Rattle.clusters.specs.Merged.{mergedItems}
 use Rattle.clusters.specs.Plan.{planOf}
-use Rattle.files.specs.File.{endsInLf?, basesOfFile}
+use Rattle.files.specs.File.{endsInLf?, referenceIn}
 use Rattle.lines.specs.Lines.{largestNumber}
 use Rattle.vcf.specs.List.{judgeText}
 use Rattle.told.specs.Files.{refusalOf, filesAnswered, filesPlan, filesMarks}
@@ -47,9 +48,9 @@ module _ (file name first second marks : List ℕ) where
   open-files e = (rw e, rw e, rw e)
 
   pub closed-files : endsInLf? file ≡ true
-      → (filesAnswered file name first second marks ≡ allAnswered (basesOfFile file) name first second leastRoom (length marks))
-      × (filesPlan file name first second marks ≡ allPlan (basesOfFile file) name first second emptyPlan marks)
-      × (filesMarks file name first second marks ≡ allBytes (basesOfFile file) name first second emptyPlan marks)
+      → (filesAnswered file name first second marks ≡ allAnswered (referenceIn file) name first second leastRoom (length marks))
+      × (filesPlan file name first second marks ≡ allPlan (referenceIn file) name first second emptyPlan marks)
+      × (filesMarks file name first second marks ≡ allBytes (referenceIn file) name first second emptyPlan marks)
   closed-files e = (rw e, rw e, rw e)
 
 -- The four numbers of an answer are those of a refusal.
@@ -58,20 +59,20 @@ Tells a r = Numbers (a .number) (a .list) (a .line) (a .place) r
 
 module _ (file name first second : List ℕ) (z : refusalOf file name first second .number ≡ 0) where
   -- the refusal of the call on the bases of the file
-  call-zero : firstRefusal (listsChecks (basesOfFile file) name first second false) .number ≡ 0
+  call-zero : firstRefusal (listsChecks (referenceIn file) name first second false) .number ≡ 0
   call-zero =
-      let checks = listsChecks (basesOfFile file) name first second false in
+      let checks = listsChecks (referenceIn file) name first second false in
       sym (ap (λ (x : Refusal). x .number) (file-past file checks (file-ends file checks z))) ∙ z
 
-  pub accepted-files : (judgeText (basesOfFile file) name first .number ≡ 0) × (judgeText (basesOfFile file) name second .number ≡ 0)
-  accepted-files = let read = lists-read (basesOfFile file) name first false second call-zero in (read .0 .accepted, read .1)
+  pub accepted-files : (judgeText (basesOf (referenceIn file)) name first .number ≡ 0) × (judgeText (basesOf (referenceIn file)) name second .number ≡ 0)
+  accepted-files = let read = lists-read (referenceIn file) name first false second call-zero in (read .0 .accepted, read .1)
 
-  pub files-answerable : Answerable (basesOfFile file) first second
-  files-answerable = lists-answerable (basesOfFile file) name first second false call-zero .0
+  pub files-answerable : Answerable (basesOf (referenceIn file)) first second
+  files-answerable = lists-answerable (referenceIn file) name first second false call-zero .0
 
 module _ (file name first second before : List ℕ) (long : length before ≡ leastRoom) where
   abbrev r : List ℕ
-  r = basesOfFile file
+  r = referenceIn file
 
   abbrev called : Refusal
   called = allRefusal r name first second leastRoom (length before)
@@ -91,7 +92,8 @@ module _ (file name first second before : List ℕ) (long : length before ≡ le
       by-end : (t : Bool) → endsInLf? file ≡ t → Tells (filesAnswered file name first second before) (refusalOf file name first second)
       by-end true e =
           rw (closed-files file name first second before e .0)
-          (four (eqb (called .number) 0) (refusedAnswer called) (length (planOf r first second)) (totalScore r (clustersOf r first second)) (refusalOf file name first second)
+          (four (eqb (called .number) 0) (refusedAnswer called) (length (planOf (basesOf r) first second)) (totalScore (basesOf r) (clustersOf (basesOf r) first second))
+          (refusalOf file name first second)
           (ap refusedAnswer (same e)))
       by-end false e =
           let q = file-open file (listsChecks r name first second false) e in
@@ -107,28 +109,29 @@ module _ (file name first second before : List ℕ) (long : length before ≡ le
     none : eqb (called .number) 0 ≡ true
     none = eq-eqb _ 0 (ap (λ (x : Refusal). x .number) (same ends) ∙ z)
 
-    pub files-clusters : filesAnswered file name first second before .clusters ≡ length (planOf (basesOfFile file) first second)
+    pub files-clusters : filesAnswered file name first second before .clusters ≡ length (planOf (basesOf (referenceIn file)) first second)
     files-clusters = ap (λ (a : AllMarked). a .clusters) (closed-files file name first second before ends .0) ∙ rw none
 
-    pub files-score : filesAnswered file name first second before .score ≡ totalScore (basesOfFile file) (clustersOf (basesOfFile file) first second)
+    pub files-score : filesAnswered file name first second before .score ≡ totalScore (basesOf (referenceIn file)) (clustersOf (basesOf (referenceIn file)) first second)
     files-score = ap (λ (a : AllMarked). a .score) (closed-files file name first second before ends .0) ∙ rw none
 
-    pub files-plan : take (filesAnswered file name first second before .clusters) (filesPlan file name first second before) ≡ planOf (basesOfFile file) first second
+    pub files-plan : take (filesAnswered file name first second before .clusters) (filesPlan file name first second before) ≡ planOf (basesOf (referenceIn file)) first second
     files-plan =
-        let wrote : filesPlan file name first second before ≡ put emptyPlan 0 (planOf r first second) = closed-files file name first second before ends .1 ∙ rw (empty-long, none) in
-        rw (files-clusters, wrote) (take-append-seam (planOf r first second) (drop (0 + length (planOf r first second)) emptyPlan))
+        let wrote : filesPlan file name first second before ≡ put emptyPlan 0 (planOf (basesOf r) first second) = closed-files file name first second before ends .1 ∙ rw (empty-long, none) in
+        rw (files-clusters, wrote) (take-append-seam (planOf (basesOf r) first second) (drop (0 + length (planOf (basesOf r) first second)) emptyPlan))
 
     pub files-marks : filesMarks file name first second before
-        ≡ allMarks (basesOfFile file) (clustersOf (basesOfFile file) first second) ++ drop (0 + length (allMarks (basesOfFile file) (clustersOf (basesOfFile file) first second))) before
+        ≡ allMarks (basesOf (referenceIn file)) (clustersOf (basesOf (referenceIn file)) first second) ++ drop
+        (0 + length (allMarks (basesOf (referenceIn file)) (clustersOf (basesOf (referenceIn file)) first second))) before
     files-marks = closed-files file name first second before ends .2 ∙ rw (empty-long, none)
 
     pub files-marked : length (mergedItems first second) ≤ length (filesMarks file name first second before)
     files-marked =
-        let own = allMarks r (clustersOf r first second) in
+        let own = allMarks (basesOf r) (clustersOf (basesOf r) first second) in
         let accepted = accepted-files file name first second z in
         omega (
           arith,
           ap length files-marks,
           length-append own (drop (0 + length own) before),
-          marks-all r name first second (accepted .0) (accepted .1),
+          marks-all (basesOf r) name first second (accepted .0) (accepted .1),
         )

@@ -6,6 +6,7 @@ use mathlib.Core.Bool.{Bool}
 use mathlib.Core.List.{List, _∷_}
 use Prim.Native.Nat.{ℕ, _≤_}
 use native.Mathlib.Omega.{arith}
+use Rattle.bases.specs.Letter.{basesOf}
 use Rattle.bases.proofs.FirstLaws.{AllTold, first-all}
 use Rattle.card.specs.declared.refusal.Refusal.{Refusal}
 use Rattle.card.specs.Refusal.{Check, refusal, noRefusal, firstRefusal, listCheck, listChecks, listsChecks}
@@ -31,10 +32,10 @@ by-number n h = record { number = omega arith; list = omega arith; line = omega 
 
 by-list : (j : ℕ) (reference name text : List ℕ) → j ≤ 2 → Printable (listCheck j reference name text .told)
 by-list j reference name text h = record {
-  number = omega (arith, given-words (judgeText reference name text .number) (judgeText reference name text .place) (judge-given reference name text) .0);
+  number = omega (arith, given-words (judgeText (basesOf reference) name text .number) (judgeText (basesOf reference) name text .place) (judge-given (basesOf reference) name text) .0);
   list = omega arith;
-  line = omega (arith, judge-line-fits reference name text);
-  place = omega (arith, judge-place-fits reference name text);
+  line = omega (arith, judge-line-fits (basesOf reference) name text);
+  place = omega (arith, judge-place-fits (basesOf reference) name text);
 }
 
 module _ (file reference name first : List ℕ) (small : Bool) where

@@ -3,6 +3,7 @@ ghost use mathlib.Core.Path.{_≡_};
 ghost use Prim.Native.Nat.{_+_, _<_, _^_};
 ghost use lib.Dec.{T};
 ghost use mathlib.Core.Bool.{true};
+ghost use Rattle.bases.specs.Letter.{basesOf};
 ghost use Rattle.fields.specs.Field.{tenFields?};
 ghost use Rattle.vcf.specs.List.{textWrong?, lineRows, nextStage, judgeText};
 ghost use Rattle.records.specs.Row.{firstRow};
@@ -51,7 +52,7 @@ fn is_text_wrong(text: &[u8]) -> bool
 
 // The first row that holds on the n-th line of a text, or none.
 fn line_fault(reference: &[u8], name: &[u8], stage: Stage, n: usize, line: &[u8]) -> LineFault
-    ensures { λ r. ⌜ r ≡ firstRow (lineRows (now (reference .entry)) (now (name .entry)) stage n (now (line .entry))) ⌝ }
+    ensures { λ r. ⌜ r ≡ firstRow (lineRows (basesOf (now (reference .entry))) (now (name .entry)) stage n (now (line .entry))) ⌝ }
 {
     if stage.below {
         return record_fault(reference, name, stage.records, stage.last, line);
@@ -97,7 +98,7 @@ fn next_stage(stage: Stage, line: &[u8]) -> Stage
 
 // The first fault of a list's text: row 3, then the lines from the top.
 pub fn judge(reference: &[u8], name: &[u8], text: &[u8]) -> Fault
-    ensures { λ r. ⌜ r ≡ judgeText (now (reference .entry)) (now (name .entry)) (now (text .entry)) ⌝ }
+    ensures { λ r. ⌜ r ≡ judgeText (basesOf (now (reference .entry))) (now (name .entry)) (now (text .entry)) ⌝ }
 {
     if is_text_wrong(text) {
         return Fault {

@@ -10,7 +10,7 @@ use mathlib.Core.Logic.{⊎-elim}
 use mathlib.Core.Path.{_≡_, refl, _∙_}
 use Prim.Native.Nat.{ℕ}
 use lib.Dec.{T}
-use Rattle.bases.specs.Reference.{isReference?}
+use Rattle.bases.specs.Reference.{Bases}
 use Rattle.vcf.specs.declared.entry.Entry.{Entry}
 use Rattle.vcf.specs.Entry.{entriesOf}
 use Rattle.vcf.specs.List.{judgeText}
@@ -46,7 +46,7 @@ perm-member (List·Permᴰ·swap e f) m =
     (List·Memᴰ·cases-cons m)
 perm-member (List·Permᴰ·trans d e) m = perm-member e (perm-member d m)
 
-module _ (reference name : List ℕ) (ok : T (isReference? reference)) (t : List ℕ) (accepted : judgeText reference name t .number ≡ 0) where
+module _ (reference name : List ℕ) (ok : Bases reference) (t : List ℕ) (accepted : judgeText reference name t .number ≡ 0) where
   abbrev w : List ℕ
   w = writtenText reference t
 

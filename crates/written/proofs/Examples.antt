@@ -8,7 +8,7 @@ use Prim.Native.Nat.{ℕ, _≤_}
 use lib.Dec.{lit≤}
 use lib.ListN.{length}
 use Rattle.bases.specs.Place.{placeOf}
-use Rattle.bases.specs.Letter.{letterOf, among?}
+use Rattle.bases.specs.Letter.{letterOf, letterAmong}
 use Rattle.bases.specs.Same.{agree?}
 use Rattle.fields.specs.Bytes.{TAB, COMMA, versionLine, columnNames, until}
 use Rattle.vcf.specs.Entry.{headerBytes}
@@ -103,5 +103,5 @@ pub example-written :
     ∷ line (49 ∷ 48 ∷ []) 99 (C ∷ A ∷ T ∷ []) (C ∷ COMMA ∷ C ∷ A ∷ T ∷ A ∷ T ∷ [])
     ∷ line (49 ∷ 49 ∷ []) 97 (A ∷ []) (G ∷ [])
     ∷ [])
-unfolding writtenText textOf writtenLines putLine writtenLine digitsOf normalEntry run all? shortest headerBytes linesOf skip until isPos? allDigits? valueFrom agree? letterOf among?
+unfolding writtenText textOf writtenLines putLine writtenLine digitsOf normalEntry run all? shortest headerBytes linesOf skip until isPos? allDigits? valueFrom agree? letterOf letterAmong
 example-written = refl

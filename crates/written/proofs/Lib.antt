@@ -29,3 +29,4 @@ pub mod WrittenForms
 pub mod WrittenLine
 pub mod WrittenList
 pub mod WrittenRows
+pub mod WrittenUpper

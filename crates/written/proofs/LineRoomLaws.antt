@@ -11,7 +11,7 @@ use lib.ListN.{length, take, drop}
 use Rattle.bases.specs.declared.place.Pos.{Pos}
 use Rattle.fields.specs.declared.field.Fields.{Fields}
 use Rattle.fields.specs.Bytes.{LF, TAB, until}
-use Rattle.vcf.specs.Entry.{part, bytesOf}
+use Rattle.bases.specs.Stretch.{stretch}
 use Rattle.fields.specs.Field.{fieldEnd, fieldAt, fieldsOf}
 use Rattle.fields.proofs.FieldLaws.{read}
 use Rattle.normal.specs.declared.entry.NormalEntry.{NormalEntry}
@@ -39,7 +39,7 @@ module _ (l : List ℕ) (pos : Pos) where
 
 module _ (reference l : List ℕ) (count : ℕ) (n : NormalEntry) where
   abbrev pub backRef : List ℕ
-  backRef = bytesOf reference (part (n .start .0) (n .span))
+  backRef = stretch reference (n .start .0) (n .span)
 
   abbrev pub backTab : List ℕ
   backTab = backRef ++ (TAB ∷ [])

@@ -16,7 +16,7 @@ use Rattle.fields.specs.Pos.{noPos}
 use Rattle.bases.specs.declared.place.Pos.{Pos}
 use Rattle.bases.specs.Letter.{basesOf}
 use Rattle.bases.specs.Pick.{pick}
-use Rattle.bases.specs.Reference.{isReference?}
+use Rattle.bases.specs.Reference.{Bases}
 use Rattle.bases.proofs.PartLaws.{part-part}
 use Rattle.fields.specs.Allele.{altCount}
 use Rattle.fields.specs.Bytes.{COMMA, until}
@@ -37,7 +37,6 @@ use Rattle.written.proofs.TextLaws.{all-map}
 use Rattle.written.proofs.WrittenAgain.{alts-same, same-form, written-form}
 use Rattle.written.proofs.WrittenLine.{written-pos}
 use Rattle.written.proofs.WrittenList.{Read, all-read}
-use Rattle.written.proofs.WrittenRows.{letters-of, fits-of}
 
 -- What the entry on a line spells.
 abbrev pub lineForm : List ℕ → List ℕ → Form
@@ -100,19 +99,19 @@ module _ (reference : List ℕ) where
   written-in-order done [] h k = refl
   written-in-order done (l ∷ ls) h k = rw (put-map l done (k .0) h) (written-in-order (putRead l done) ls (put-read-all At l done (k .0) h) (k .1))
 
-module _ (reference name : List ℕ) (ok : T (isReference? reference)) where
+module _ (reference name : List ℕ) (ok : Bases reference) where
   pub read-stands : (l : List ℕ) → Read reference name ok l → Stands reference l (entryOf l 0)
-  read-stands l r = line-stands reference l (letters-of reference ok) (r .free) (r .line)
+  read-stands l r = line-stands reference l ok (r .free) (r .line)
 
   written-line-form : (l : List ℕ) → Read reference name ok l → lineForm reference (writtenLine reference l) ≡ formSpelled reference l (altCount (field 4 l)) (newOn reference l)
   written-line-form l r =
-      written-form reference l (letters-of reference ok) (r .free) (r .line) (fits-of reference ok)
+      written-form reference l ok (r .free) (r .line) (ok .short)
       (record-line reference name 0 noPos (writtenLine reference l) (r .rows 0 noPos (lit< tt) (omega arith)))
 
-  pub written-normal : (l : List ℕ) → Read reference name ok l → NormalForm (basesOf reference) (lineForm reference l) (lineForm reference (writtenLine reference l))
-  written-normal l r = rw (written-line-form l r) (line-normal reference l (letters-of reference ok) (r .free) (r .line))
+  pub written-normal : (l : List ℕ) → Read reference name ok l → NormalForm reference (lineForm reference l) (lineForm reference (writtenLine reference l))
+  written-normal l r = rw (written-line-form l r) (line-normal reference l ok (r .free) (r .line))
 
-  pub normal-line-form : (l : List ℕ) → Read reference name ok l → lineForm reference (writtenLine reference l) ≡ normalOf (basesOf reference) (lineForm reference l)
+  pub normal-line-form : (l : List ℕ) → Read reference name ok l → lineForm reference (writtenLine reference l) ≡ normalOf reference (lineForm reference l)
   normal-line-form l r = written-line-form l r ∙ normal-entry-form reference l (entryOf l 0) (read-stands l r)
 
   module _ (t : List ℕ) (accepted : judgeText reference name t .number ≡ 0) where
@@ -122,5 +121,5 @@ module _ (reference name : List ℕ) (ok : T (isReference? reference)) where
     pub lines-in-order : writtenLines reference [] rs ≡ map (writtenLine reference) (inOrder reference [] rs)
     lines-in-order =
         let read = all-read reference name ok t accepted in
-        let at = all-map (Read reference name ok) (At reference) (λ l r. written-pos reference l (letters-of reference ok) (r .free) (r .line) (fits-of reference ok)) rs read in
+        let at = all-map (Read reference name ok) (At reference) (λ l r. written-pos reference l ok (r .free) (r .line) (ok .short)) rs read in
         written-in-order reference [] rs tt at

@@ -13,9 +13,9 @@ use native.Mathlib.Omega.{arith}
 use lib.Dec.{T, eqb, ltb→lt, lit<}
 use lib.ListN.{length, drop, length-append, length-drop}
 use lib.Seq.{length-take-le}
-use Rattle.bases.specs.Letter.{allLetters?, letterOf, among?, isLetter?}
+use Rattle.bases.specs.Letter.{allLetters?, letterOf, letterAmong, isLetter?}
 use Rattle.bases.specs.Pick.{pick}
-use Rattle.bases.specs.Reference.{longestReference}
+use Rattle.bases.specs.Reference.{Bases, longestReference}
 use Rattle.fields.specs.Allele.{firstAlt, twoAlts?}
 use Rattle.fields.specs.Bytes.{LF, TAB, COMMA, until}
 use Rattle.fields.specs.Field.{field, fieldAt, tenFields?}
@@ -36,7 +36,7 @@ alt-without : (x : ℕ) (t : Bool) (a b : List ℕ) → eqb COMMA x ≡ false �
 alt-without x true a b e h k = without-append x a (COMMA ∷ b) h (without-cons x COMMA b e k)
 alt-without x false a b e h k = h
 
-module _ (reference l : List ℕ) (good : T (allLetters? reference)) (one : Without LF l) (line : RecordLine reference l) where
+module _ (reference l : List ℕ) (good : Bases reference) (one : Without LF l) (line : RecordLine reference l) where
   -- POS, REF and ALT as they are written.
   abbrev pos : List ℕ
   pos = decimal (newPos reference l .0)
@@ -73,11 +73,11 @@ module _ (reference l : List ℕ) (good : T (allLetters? reference)) (one : With
   pos-free = pos-without TAB refl
 
   ref-free : Without TAB ref
-  unfolding letterOf among?
+  unfolding letterOf letterAmong
   ref-free = ref-without TAB refl
 
   alt-free : Without TAB alt
-  unfolding letterOf among?
+  unfolding letterOf letterAmong
   alt-free = alt-is-without TAB refl refl
 
   abbrev m : List ℕ

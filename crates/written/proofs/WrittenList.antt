@@ -17,7 +17,7 @@ use lib.ListN.{length, getD, take, drop, length-append}
 use lib.Seq.{take-at, drop-at}
 use Rattle.bases.specs.declared.place.Pos.{Pos}
 use Rattle.fields.specs.Pos.{noPos}
-use Rattle.bases.specs.Reference.{isReference?}
+use Rattle.bases.specs.Reference.{Bases}
 use Rattle.bases.proofs.TestLaws.{neither}
 use Rattle.fields.specs.Bytes.{LF}
 use Rattle.vcf.specs.Entry.{recordsAt}
@@ -36,9 +36,9 @@ use Rattle.written.proofs.TextLaws.{all-append, all-left, all-right, al
 use Rattle.written.proofs.WithoutLaws.{Without}
 use Rattle.written.proofs.WrittenAgain.{written-free, written-again}
 use Rattle.written.proofs.WrittenLine.{written-short, written-pos}
-use Rattle.written.proofs.WrittenRows.{letters-of, fits-of, written-rows}
+use Rattle.written.proofs.WrittenRows.{written-rows}
 
-module _ (reference name : List ℕ) (ok : T (isReference? reference)) where
+module _ (reference name : List ℕ) (ok : Bases reference) where
   -- A record's line on which no row holds.
   pub record Read (l : List ℕ) : Type 0 where
     pub free : Without LF l
@@ -53,8 +53,8 @@ module _ (reference name : List ℕ) (ok : T (isReference? reference)) where
 
   wrote : (l : List ℕ) → Read l → Wrote (writtenLine reference l)
   wrote l r =
-      let good = letters-of reference ok in
-      let fits = fits-of reference ok in
+      let good = ok in
+      let fits = ok .short in
       let pos = written-pos reference l good (r .free) (r .line) fits in
       let new = record-line reference name 0 noPos (writtenLine reference l) (r .rows 0 noPos (lit< tt) (omega arith)) in
       record {
@@ -134,7 +134,7 @@ module _ (reference name : List ℕ) (ok : T (isReference? reference)) where
 
     pub written-not-longer : length (writtenText reference t) ≤ length t
     written-not-longer =
-        let short = all-map Read (λ l. length (writtenLine reference l) ≤ length l) (λ l r. written-short reference l (letters-of reference ok) (r .free) (r .line)) rs all-read in
+        let short = all-map Read (λ l. length (writtenLine reference l) ≤ length l) (λ l r. written-short reference l ok (r .free) (r .line)) rs all-read in
         omega (
           arith,
           ap length text-written,

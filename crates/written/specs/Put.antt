@@ -6,8 +6,8 @@ use lib.Dec.{leb}
 use lib.ListN.{take, drop}
 use Rattle.bases.specs.declared.place.Pos.{Pos}
 use Rattle.bases.specs.Pick.{pick}
+use Rattle.bases.specs.Stretch.{stretch}
 use Rattle.fields.specs.Bytes.{LF, TAB}
-use Rattle.vcf.specs.Entry.{part, bytesOf}
 use Rattle.fields.specs.Field.{fieldEnd, fieldAt}
 use Rattle.normal.specs.declared.entry.NormalEntry.{NormalEntry}
 use Rattle.written.specs.Written.{decimal, altsSpelled}
@@ -25,5 +25,5 @@ frontWith l pos =
 -- A line from its REF on, with the REF and so many ALTs of a normal form, and its LF.
 abbrev pub backWith : List ℕ → List ℕ → ℕ → NormalEntry → List ℕ
 backWith reference l alts n =
-    bytesOf reference (part (n .start .0) (n .span)) ++ (TAB ∷ []) ++ altsSpelled reference l alts n ++ drop (fieldEnd l (fieldAt 4 l)) l
+    stretch reference (n .start .0) (n .span) ++ (TAB ∷ []) ++ altsSpelled reference l alts n ++ drop (fieldEnd l (fieldAt 4 l)) l
     ++ (LF ∷ [])

@@ -1,22 +1,25 @@
-// A record's line, written in normal form. Only POS, REF and ALT are replaced; the other bytes of the line stay.
+// A record's line, written in normal form. Only POS, REF and ALT are replaced, REF and ALT in upper case; the other bytes of the line stay.
 ghost use mathlib.Core.List.{_++_};
 ghost use mathlib.Core.Path.{_≡_};
 ghost use Prim.Native.Nat.{_+_, _≤_};
 ghost use lib.ListN.{length};
 ghost use lib.Dec.{T};
+ghost use Rattle.bases.specs.Letter.{basesOf};
 ghost use Rattle.fields.specs.Field.{tenFields?};
 ghost use Rattle.fields.specs.Pos.{largestPos};
 ghost use Rattle.bases.specs.Place.{posOf};
 ghost use Rattle.bases.specs.Put.{put};
 ghost use Rattle.written.specs.Put.{frontWith, backWith};
-ghost use Rattle.normal.specs.Spelled.{bytesSpelled, OnBoth};
+ghost use Rattle.normal.specs.Spelled.{basesSpelled, OnBoth};
 ghost use Rattle.written.specs.Written.{altsSpelled};
 use crate::put::put_decimal;
 use bases::place::Place;
 use bases::place::Pos;
 use bases::place::pos_of;
+use bases::put::put_bases;
 use bases::put::put_byte;
 use bases::put::put_bytes;
+use bases::reference::put_stretch;
 use fields::bytes::COMMA;
 use fields::bytes::LF;
 use fields::bytes::TAB;
@@ -35,21 +38,19 @@ fn put_spelled(
     at: usize,
 ) -> usize
     requires { ⌜
-        OnBoth (now reference) (now line) start allele
-        × (at + length (bytesSpelled (now reference) (now line) start allele) ≤ length (now out))
+        OnBoth (basesOf (now reference)) (now line) start allele
+        × (at + length (basesSpelled (basesOf (now reference)) (now line) start allele) ≤ length (now out))
         ⌝ }
     ensures { λ r. ⌜
-        (r ≡ at + length (bytesSpelled (now (reference .entry)) (now (line .entry)) start allele))
-        × (now (out .exit) ≡ put (now (out .entry)) at (bytesSpelled (now (reference .entry)) (now (line .entry)) start allele))
+        (r ≡ at + length (basesSpelled (basesOf (now (reference .entry))) (now (line .entry)) start allele))
+        × (now (out .exit) ≡ put (now (out .entry)) at (basesSpelled (basesOf (now (reference .entry))) (now (line .entry)) start allele))
         ⌝ }
 {
-    let begin = start.0;
-    let end = begin + allele.front;
-    let next = put_bytes(&reference[begin..end], out, at);
+    let next = put_stretch(reference, start.0, allele.front, out, at);
     let own = allele.own;
     let from = own.at;
     let to = from + own.len;
-    put_bytes(&line[from..to], out, next)
+    put_bases(&line[from..to], out, next)
 }
 
 // Writes the ALTs of a normal form that has so many.
@@ -62,13 +63,13 @@ pub fn put_alts(
     at: usize,
 ) -> usize
     requires { ⌜
-        OnBoth (now reference) (now line) (normal .start) (normal .first)
-        × OnBoth (now reference) (now line) (normal .start) (normal .second)
-        × (at + length (altsSpelled (now reference) (now line) alts normal) ≤ length (now out))
+        OnBoth (basesOf (now reference)) (now line) (normal .start) (normal .first)
+        × OnBoth (basesOf (now reference)) (now line) (normal .start) (normal .second)
+        × (at + length (altsSpelled (basesOf (now reference)) (now line) alts normal) ≤ length (now out))
         ⌝ }
     ensures { λ r. ⌜
-        (r ≡ at + length (altsSpelled (now (reference .entry)) (now (line .entry)) alts normal))
-        × (now (out .exit) ≡ put (now (out .entry)) at (altsSpelled (now (reference .entry)) (now (line .entry)) alts normal))
+        (r ≡ at + length (altsSpelled (basesOf (now (reference .entry))) (now (line .entry)) alts normal))
+        × (now (out .exit) ≡ put (now (out .entry)) at (altsSpelled (basesOf (now (reference .entry))) (now (line .entry)) alts normal))
         ⌝ }
 {
     let start = normal.start;
@@ -112,23 +113,21 @@ pub fn put_back(
 ) -> usize
     requires { ⌜
         T (tenFields? (now line))
-        × (normal .start .0 + normal .span ≤ length (now reference))
-        × OnBoth (now reference) (now line) (normal .start) (normal .first)
-        × OnBoth (now reference) (now line) (normal .start) (normal .second)
-        × (at + length (backWith (now reference) (now line) alts normal) ≤ length (now out))
+        × (normal .start .0 + normal .span ≤ length (basesOf (now reference)))
+        × OnBoth (basesOf (now reference)) (now line) (normal .start) (normal .first)
+        × OnBoth (basesOf (now reference)) (now line) (normal .start) (normal .second)
+        × (at + length (backWith (basesOf (now reference)) (now line) alts normal) ≤ length (now out))
         ⌝ }
     ensures { λ r. ⌜
-        (r ≡ at + length (backWith (now (reference .entry)) (now (line .entry)) alts normal))
-        × (now (out .exit) ≡ put (now (out .entry)) at (backWith (now (reference .entry)) (now (line .entry)) alts normal))
+        (r ≡ at + length (backWith (basesOf (now (reference .entry))) (now (line .entry)) alts normal))
+        × (now (out .exit) ≡ put (now (out .entry)) at (backWith (basesOf (now (reference .entry))) (now (line .entry)) alts normal))
         ⌝ }
 {
     let fields = fields_of(line);
     let alt_at = fields.alt;
     let rest = find(line, alt_at, TAB);
     let place = normal.start;
-    let start = place.0;
-    let end = start + normal.span;
-    let a = put_bytes(&reference[start..end], out, at);
+    let a = put_stretch(reference, place.0, normal.span, out, at);
     let b = put_byte(TAB, out, a);
     let c = put_alts(reference, line, alts, normal, out, b);
     let d = put_bytes(&line[rest..], out, c);
@@ -147,16 +146,18 @@ pub fn put_line(
     requires { ⌜
         T (tenFields? (now line))
         × (posOf (normal .start) .0 ≤ largestPos)
-        × (normal .start .0 + normal .span ≤ length (now reference))
-        × OnBoth (now reference) (now line) (normal .start) (normal .first)
-        × OnBoth (now reference) (now line) (normal .start) (normal .second)
-        × (at + length (frontWith (now line) (posOf (normal .start)) ++ backWith (now reference) (now line) alts normal) ≤ length (now out))
+        × (normal .start .0 + normal .span ≤ length (basesOf (now reference)))
+        × OnBoth (basesOf (now reference)) (now line) (normal .start) (normal .first)
+        × OnBoth (basesOf (now reference)) (now line) (normal .start) (normal .second)
+        × (at + length (frontWith (now line) (posOf (normal .start)) ++ backWith (basesOf (now reference)) (now line) alts normal) ≤ length
+        (now out))
         ⌝ }
     ensures { λ r. ⌜
         (r ≡ at + length (frontWith (now (line .entry)) (posOf (normal .start))
-        ++ backWith (now (reference .entry)) (now (line .entry)) alts normal))
+        ++ backWith (basesOf (now (reference .entry))) (now (line .entry)) alts normal))
         × (now (out .exit) ≡ put (now (out .entry))
-        at (frontWith (now (line .entry)) (posOf (normal .start)) ++ backWith (now (reference .entry)) (now (line .entry)) alts normal))
+        at (frontWith (now (line .entry)) (posOf (normal .start)) ++ backWith (basesOf (now (reference .entry)))
+        (now (line .entry)) alts normal))
         ⌝ }
 {
     let start = normal.start;

@@ -4,6 +4,9 @@ use Prim.Native.Nat.{_-_}
 use native.Mathlib.Omega.{arith}
 use borrow.Author.Needs.{needs}
 use Rattle.bases.specs.Letter.{basesOf}
+use Rattle.bases.specs.Stretch.{stretch}
+use Rattle.bases.proofs.LetterLaws.{bases-length}
+use Rattle.bases.proofs.StretchLaws.{stretch-length}
 use Rattle.normal.specs.Cut.{run, frontAlike?}
 use Rattle.normal.specs.Spelled.{three}
 use Rattle.normal.proofs.AlikeLaws.{cuts-are}
@@ -23,7 +26,7 @@ shorter-requires-2 : tie.Need-shorter-requires-2
 shorter-requires-2 c κs = search needs
 
 add-cut-back : tie.Need-add-cut-back
-add-cut-back c = search needs
+add-cut-back c = omega (arith, bases-length (c .before .before .before .before .before .before .args .reference .now))
 
 sub-cut-back : tie.Need-sub-cut-back
 sub-cut-back c = search needs
@@ -42,8 +45,9 @@ cut-front-requires c κs = search needs
 
 returns : tie.Need-returns
 returns c =
-    let x = c .before .before .before .before .before .before .before .before .before .before .args in
-    cuts-are (basesOf (x .reference .now)) (x .start) (x .a .now) (x .b .now) (x .c .now)
+    let x = c .before .before .before .before .before .before .before .before .before .args in
+    cuts-are (basesOf (x .reference .now)) (x .start) (stretch (basesOf (x .reference .now)) (x .start .0) (x .span)) (x .b .now) (x .c .now)
+    (stretch-length (basesOf (x .reference .now)) (x .start .0) (x .span) (omega arith))
     (c .before .before .before .before .before .shorter .ensures)
     (c .before .before .before .before .shorter2 .ensures)
     (c .before .before .cut-back .ensures)
@@ -51,11 +55,12 @@ returns c =
 
 returns-2 : tie.Need-returns-2
 returns-2 c =
-    let x = c .before .before .before .before .before .before .before .before .before .args in
-    let f = three (x .start) (basesOf (x .a .now)) (basesOf (x .b .now)) (basesOf (x .c .now)) in
+    let x = c .before .before .before .before .before .before .before .before .args in
+    let f = three (x .start) (stretch (basesOf (x .reference .now)) (x .start .0) (x .span)) (basesOf (x .b .now)) (basesOf (x .c .now)) in
     let n = c .before .before .before .shorter2 .result - c .before .cut-back .result - 1 in
     let none : 0 ≡ run (frontAlike? f) n = omega (arith, run-le (frontAlike? f) n) in
-    cuts-are (basesOf (x .reference .now)) (x .start) (x .a .now) (x .b .now) (x .c .now)
+    cuts-are (basesOf (x .reference .now)) (x .start) (stretch (basesOf (x .reference .now)) (x .start .0) (x .span)) (x .b .now) (x .c .now)
+    (stretch-length (basesOf (x .reference .now)) (x .start .0) (x .span) (omega arith))
     (c .before .before .before .before .shorter .ensures)
     (c .before .before .before .shorter2 .ensures)
     (c .before .cut-back .ensures)

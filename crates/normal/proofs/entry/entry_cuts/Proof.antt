@@ -2,9 +2,9 @@
 use mathlib.Core.Path.{_≡_, ap, _∙_}
 use native.Mathlib.Omega.{arith}
 use lib.ListN.{length}
+use Rattle.bases.specs.Letter.{basesOf}
 use Rattle.bases.specs.declared.place.Place.{Place}
 use Rattle.vcf.specs.declared.entry.Part.{Part}
-use Rattle.vcf.specs.Entry.{part}
 use Rattle.normal.specs.Spelled.{lastAlt}
 use Rattle.normal.proofs.EntryLaws.{part-length, entry-cuts-are}
 use borrow.Author.Needs.{needs}
@@ -17,43 +17,35 @@ use Rattle.normal.proofs.entry.bytes_of.Reads as bytes-of-reads
 use Rattle.normal.proofs.entry.last_alt.Reads as last-alt-reads
 
 bytes-of-requires : tie.Need-bytes-of-requires
-bytes-of-requires c κs =
-    let s = ap (λ (p : Place). p .0) (c .before .before .before .pre .1) in
-    let on = c .before .before .before .pre .0 .on in
-    (omega arith, omega arith)
-
-bytes-of-requires-2 : tie.Need-bytes-of-requires-2
-bytes-of-requires-2 c κs = search needs
+bytes-of-requires c κs = search needs
 
 last-alt-requires : tie.Need-last-alt-requires
 last-alt-requires c κs = search needs
 
-bytes-of-requires-3 : tie.Need-bytes-of-requires-3
-bytes-of-requires-3 c κs =
-    let e = c .before .before .before .before .before .before .args .entry in
+bytes-of-requires-2 : tie.Need-bytes-of-requires-2
+bytes-of-requires-2 c κs =
+    let e = c .before .before .before .before .before .args .entry in
     let l : c .last-alt .result ≡ lastAlt e = c .last-alt .ensures in
-    rw l (c .before .before .before .before .before .before .pre .0 .second)
+    rw l (c .before .before .before .before .before .pre .0 .second)
 
 cuts-of-requires : tie.Need-cuts-of-requires
 cuts-of-requires c κs =
-    let x = c .before .before .before .before .before .before .before .args in
-    let st = c .before .before .before .before .before .before .before .pre .0 in
+    let x = c .before .before .before .before .before .before .args in
+    let st = c .before .before .before .before .before .before .pre .0 in
     let e = x .entry in
-    let s = ap (λ (p : Place). p .0) (c .before .before .before .before .before .before .before .pre .1) in
+    let s = ap (λ (p : Place). p .0) (c .before .before .before .before .before .before .pre .1) in
     let l : c .before .last-alt .result ≡ lastAlt e = c .before .last-alt .ensures in
-    let a = ap length (c .before .before .before .bytes-of .ensures) ∙ part-length (x .reference .now) (part (x .start .0) (e .reference .len)) (omega arith, omega arith) in
-    let b = ap length (c .before .before .bytes-of2 .ensures) ∙ part-length (x .text .now) (e .first) (st .first) in
-    let d = ap length (c .bytes-of3 .ensures) ∙ part-length (x .text .now) (c .before .last-alt .result) (rw l (st .second)) ∙ ap (λ (p : Part). p .len) l in
+    let b = ap length (c .before .before .bytes-of .ensures) ∙ part-length (x .text .now) (e .first) (st .first) in
+    let d = ap length (c .bytes-of2 .ensures) ∙ part-length (x .text .now) (c .before .last-alt .result) (rw l (st .second)) ∙ ap (λ (p : Part). p .len) l in
     (omega arith, omega arith, omega arith, omega arith)
 
 returns : tie.Need-returns
 returns c =
-    let x = c .before .before .before .before .before .before .before .before .args in
-    entry-cuts-are (x .reference .now) (x .text .now) (x .entry) (c .before .before .before .before .before .before .before .before .pre .1)
-    (c .before .before .before .before .bytes-of .ensures)
-    (c .before .before .before .bytes-of2 .ensures)
+    let x = c .before .before .before .before .before .before .before .args in
+    entry-cuts-are (basesOf (x .reference .now)) (x .text .now) (x .entry) (c .before .before .before .before .before .before .before .pre .1)
+    (c .before .before .before .bytes-of .ensures)
     (c .before .before .last-alt .ensures)
-    (c .before .bytes-of3 .ensures)
+    (c .before .bytes-of2 .ensures)
     (c .cuts-of .ensures)
 
 pub entry-cuts-spec : {M : Type 1} → statement M
@@ -61,8 +53,7 @@ entry-cuts-spec =
     tie.close
     (tie.spec
     bytes-of-requires
-    bytes-of-requires-2
     last-alt-requires
-    bytes-of-requires-3
+    bytes-of-requires-2
     cuts-of-requires
     returns)

@@ -2,9 +2,11 @@
 -- Assumes nothing.
 use mathlib.Core.Path.{_≡_, ap, _∙_}
 use native.Mathlib.Omega.{arith}
+use Rattle.bases.specs.Letter.{basesOf}
 use Rattle.bases.specs.declared.place.Place.{Place}
 use Rattle.vcf.specs.declared.entry.Part.{Part}
 use Rattle.normal.specs.Spelled.{spelled, lastAlt}
+use Rattle.bases.proofs.LetterLaws.{bases-length}
 use Rattle.normal.proofs.EntryLaws.{bounds, normal-entry-of}
 use borrow.Author.Needs.{needs}
 use Rattle.normal.proofs.entry.normal_entry.Statement.{statement}
@@ -26,15 +28,15 @@ entry-cuts-requires c κs = (c .before .before .before .before .pre, c .place-of
 add-new-start : tie.Need-add-new-start
 add-new-start c =
     let x = c .before .before .before .before .before .before .before .args in
-    let k = bounds (x .reference .now) (x .text .now) (x .entry) (c .before .before .before .before .before .before .before .pre) (c .before .before .entry-cuts .result)
+    let k = bounds (basesOf (x .reference .now)) (x .text .now) (x .entry) (c .before .before .before .before .before .before .before .pre) (c .before .before .entry-cuts .result)
     (c .before .before .entry-cuts .ensures) in
     let st = c .before .before .before .before .before .before .before .pre in
-    omega (arith, ap (λ (p : Place). p .0) (c .before .before .before .place-of .ensures))
+    omega (arith, bases-length (x .reference .now), ap (λ (p : Place). p .0) (c .before .before .before .place-of .ensures))
 
 taken-in-requires : tie.Need-taken-in-requires
 taken-in-requires c κs =
     let x = c .before .before .before .before .before .before .before .args in
-    let k = bounds (x .reference .now) (x .text .now) (x .entry) (c .before .before .before .before .before .before .before .pre) (c .before .before .entry-cuts .result)
+    let k = bounds (basesOf (x .reference .now)) (x .text .now) (x .entry) (c .before .before .before .before .before .before .before .pre) (c .before .before .entry-cuts .result)
     (c .before .before .entry-cuts .ensures) in
     let st = c .before .before .before .before .before .before .before .pre in
     omega arith
@@ -43,7 +45,7 @@ sub-new-start : tie.Need-sub-new-start
 sub-new-start c =
     let c8 = c .before .before .before .before .before .before .before .before in
     let x = c8 .args in
-    let k = bounds (x .reference .now) (x .text .now) (x .entry) (c8 .pre) (c .before .before .before .entry-cuts .result) (c .before .before .before .entry-cuts .ensures) in
+    let k = bounds (basesOf (x .reference .now)) (x .text .now) (x .entry) (c8 .pre) (c .before .before .before .entry-cuts .result) (c .before .before .before .entry-cuts .ensures) in
     let st = c8 .pre in
     omega (arith, ap (λ (p : Place). p .0) (c .before .before .before .before .place-of .ensures))
 
@@ -51,16 +53,16 @@ add-t9 : tie.Need-add-t9
 add-t9 c =
     let c8 = c .before .before .before .before .before .before .before .before in
     let x = c8 .before .before .before .args in
-    let k = bounds (x .reference .now) (x .text .now) (x .entry) (c8 .before .before .before .pre) (c .before .before .before .before .before .before .entry-cuts .result)
+    let k = bounds (basesOf (x .reference .now)) (x .text .now) (x .entry) (c8 .before .before .before .pre) (c .before .before .before .before .before .before .entry-cuts .result)
     (c .before .before .before .before .before .before .entry-cuts .ensures) in
     let st = c8 .before .before .before .pre in
-    omega (arith, ap (λ (p : Place). p .0) (c .before .before .before .before .before .before .before .place-of .ensures))
+    omega (arith, bases-length (x .reference .now), ap (λ (p : Place). p .0) (c .before .before .before .before .before .before .before .place-of .ensures))
 
 sub-t10 : tie.Need-sub-t10
 sub-t10 c =
     let c8 = c .before .before .before .before .before .before .before .before in
     let x = c8 .before .before .before .before .args in
-    let k = bounds (x .reference .now) (x .text .now) (x .entry) (c8 .before .before .before .before .pre) (c .before .before .before .before .before .before .before .entry-cuts .result)
+    let k = bounds (basesOf (x .reference .now)) (x .text .now) (x .entry) (c8 .before .before .before .before .pre) (c .before .before .before .before .before .before .before .entry-cuts .result)
     (c .before .before .before .before .before .before .before .entry-cuts .ensures) in
     let st = c8 .before .before .before .before .pre in
     omega (arith, ap (λ (p : Place). p .0) (c8 .place-of .ensures))
@@ -69,7 +71,7 @@ sub-t12 : tie.Need-sub-t12
 sub-t12 c =
     let c8 = c .before .before .before .before .before .before .before .before in
     let x = c8 .before .before .before .before .args in
-    let k = bounds (x .reference .now) (x .text .now) (x .entry) (c8 .before .before .before .before .pre) (c .before .before .before .before .before .before .before .entry-cuts .result)
+    let k = bounds (basesOf (x .reference .now)) (x .text .now) (x .entry) (c8 .before .before .before .before .pre) (c .before .before .before .before .before .before .before .entry-cuts .result)
     (c .before .before .before .before .before .before .before .entry-cuts .ensures) in
     let st = c8 .before .before .before .before .pre in
     omega (arith, ap (λ (p : Place). p .0) (c8 .place-of .ensures))
@@ -78,7 +80,7 @@ spelled-part-requires : tie.Need-spelled-part-requires
 spelled-part-requires c κs =
     let c8 = c .before .before .before .before .before .before .before .before in
     let x = c8 .before .before .before .before .args in
-    let k = bounds (x .reference .now) (x .text .now) (x .entry) (c8 .before .before .before .before .pre) (c .before .before .before .before .before .before .before .entry-cuts .result)
+    let k = bounds (basesOf (x .reference .now)) (x .text .now) (x .entry) (c8 .before .before .before .before .pre) (c .before .before .before .before .before .before .before .entry-cuts .result)
     (c .before .before .before .before .before .before .before .entry-cuts .ensures) in
     let st = c8 .before .before .before .before .pre in
     (omega arith, omega arith, omega arith, omega arith)
@@ -90,7 +92,8 @@ spelled-part-requires-2 : tie.Need-spelled-part-requires-2
 spelled-part-requires-2 c κs =
     let c8 = c .before .before .before .before .before .before .before .before in
     let x = c8 .before .before .before .before .before .before .args in
-    let k = bounds (x .reference .now) (x .text .now) (x .entry) (c8 .before .before .before .before .before .before .pre) (c8 .before .entry-cuts .result) (c8 .before .entry-cuts .ensures) in
+    let k = bounds (basesOf (x .reference .now)) (x .text .now) (x .entry) (c8 .before .before .before .before .before .before .pre) (c8 .before .entry-cuts .result)
+    (c8 .before .entry-cuts .ensures) in
     let st = c8 .before .before .before .before .before .before .pre in
     let l : c .last-alt .result ≡ lastAlt (x .entry) = c .last-alt .ensures in
     let at = ap (λ (p : Part). p .at) l in
@@ -101,7 +104,7 @@ returns : tie.Need-returns
 returns c =
     let c8 = c .before .before .before .before .before .before .before .before in
     let x = c8 .before .before .before .before .before .before .before .args in
-    normal-entry-of (x .reference .now) (x .text .now) (x .entry) (c8 .before .before .before .place-of .result) (c8 .before .before .entry-cuts .result)
+    normal-entry-of (basesOf (x .reference .now)) (x .text .now) (x .entry) (c8 .before .before .before .place-of .result) (c8 .before .before .entry-cuts .result)
     (c .before .before .before .before .before .before .before .taken-in .result) (c .before .before .spelled-part .result) (c .spelled-part2 .result)
     (c8 .before .before .before .place-of .ensures) (c8 .before .before .entry-cuts .ensures) (c .before .before .before .before .before .before .before .taken-in .ensures)
     (c .before .before .spelled-part .ensures)

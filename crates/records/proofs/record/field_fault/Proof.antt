@@ -2,6 +2,7 @@
 use mathlib.Core.Path.{sym, ap, _∙_}
 use borrow.Author.Needs.{needs}
 use borrow.Author.Tests.{eq-eqb, ne-eqb}
+use Rattle.bases.specs.Letter.{basesOf}
 use Rattle.bases.specs.declared.place.Pos.{Pos}
 use Rattle.records.specs.Alt.{altRows}
 use Rattle.records.specs.Record.{laterRows}
@@ -55,7 +56,7 @@ returns-4 c =
     ∙ first-row-not _ _ (ne-eqb _ _ (λ e. c .before .before .before .before .before .if2 .left
     (ap (λ (p : Pos). p .0) (c .before .before .before .before .before .before .before .pos-on .ensures) ∙ e)))
     ∙ first-row-not _ _ (sym (c .before .before .before .before .ref-wrong .ensures) ∙ c .before .before .before .if3 .left)
-    ∙ first-row-keeps (altRows l) (laterRows (a .args .reference .now) (a .args .last) l) (λ z. c .if4 .taken (ap (λ (x : LineFault). x .number) (alt .ensures) ∙ z)))
+    ∙ first-row-keeps (altRows l) (laterRows (basesOf (a .args .reference .now)) (a .args .last) l) (λ z. c .if4 .taken (ap (λ (x : LineFault). x .number) (alt .ensures) ∙ z)))
 
 later-fault-requires : tie.Need-later-fault-requires
 later-fault-requires c κs = search needs
@@ -73,7 +74,7 @@ returns-5 c =
     ∙ first-row-not _ _ (ne-eqb _ _ (λ e. c .before .before .before .before .before .before .if2 .left
     (ap (λ (p : Pos). p .0) (c .before .before .before .before .before .before .before .before .pos-on .ensures) ∙ e)))
     ∙ first-row-not _ _ (sym (c .before .before .before .before .before .ref-wrong .ensures) ∙ c .before .before .before .before .if3 .left)
-    ∙ first-row-past (altRows l) (laterRows (a .args .reference .now) (a .args .last) l) (none-holds (altRows l) (numbered (altRows l) tt) zero))
+    ∙ first-row-past (altRows l) (laterRows (basesOf (a .args .reference .now)) (a .args .last) l) (none-holds (altRows l) (numbered (altRows l) tt) zero))
 
 pub field-fault-spec : {M : Type 1} → statement M
 field-fault-spec =

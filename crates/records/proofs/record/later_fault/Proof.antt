@@ -4,6 +4,7 @@ use mathlib.Core.Path.{sym, ap, _∙_}
 use borrow.Author.Needs.{needs}
 use borrow.Author.Tests.{lt-ltb, le-ltb}
 use lib.Dec.{ltb}
+use Rattle.bases.specs.Letter.{basesOf}
 use Rattle.bases.specs.declared.place.Pos.{Pos}
 use Rattle.fields.specs.Field.{field}
 use Rattle.records.specs.Record.{offReference?}
@@ -39,7 +40,8 @@ returns-3 c =
     sym
     (first-row-not _ _ (sym (c .before .before .before .before .before .genotype-wrong .ensures) ∙ c .before .before .before .before .if1 .left)
     ∙ first-row-not _ _ (sym (c .before .before .before .has-no-alt .ensures) ∙ c .before .before .if2 .left)
-    ∙ first-row-holds _ _ (sym (c .before .is-off-reference .ensures ∙ ap (λ (p : Pos). offReference? (a .args .reference .now) p (field 3 (a .args .line .now))) (a .pre .2)) ∙ c .if3 .taken))
+    ∙ first-row-holds _ _ (sym (c .before .is-off-reference .ensures ∙ ap (λ (p : Pos). offReference? (basesOf (a .args .reference .now)) p (field 3 (a .args .line .now))) (a .pre .2))
+    ∙ c .if3 .taken))
 
 returns-4 : tie.Need-returns-4
 returns-4 c =
@@ -47,7 +49,7 @@ returns-4 c =
     sym
     (first-row-not _ _ (sym (c .before .before .before .before .before .before .before .before .genotype-wrong .ensures) ∙ c .before .before .before .before .before .before .before .if1 .left)
     ∙ first-row-not _ _ (sym (c .before .before .before .before .before .before .has-no-alt .ensures) ∙ c .before .before .before .before .before .if2 .left)
-    ∙ first-row-not _ _ (sym (c .before .before .before .before .is-off-reference .ensures ∙ ap (λ (p : Pos). offReference? (a .args .reference .now) p (field 3 (a .args .line .now)))
+    ∙ first-row-not _ _ (sym (c .before .before .before .before .is-off-reference .ensures ∙ ap (λ (p : Pos). offReference? (basesOf (a .args .reference .now)) p (field 3 (a .args .line .now)))
     (a .pre .2)) ∙ c .before .before .before .if3 .left)
     ∙ first-row-holds _ _ (ap (λ (p : Pos). ltb (p .0) (a .args .last .0)) (sym (a .pre .2)) ∙ lt-ltb _ _ (c .if4 .taken)))
 
@@ -57,7 +59,7 @@ returns-5 c =
     sym
     (first-row-not _ _ (sym (c .before .before .before .before .before .before .before .before .genotype-wrong .ensures) ∙ c .before .before .before .before .before .before .before .if1 .left)
     ∙ first-row-not _ _ (sym (c .before .before .before .before .before .before .has-no-alt .ensures) ∙ c .before .before .before .before .before .if2 .left)
-    ∙ first-row-not _ _ (sym (c .before .before .before .before .is-off-reference .ensures ∙ ap (λ (p : Pos). offReference? (a .args .reference .now) p (field 3 (a .args .line .now)))
+    ∙ first-row-not _ _ (sym (c .before .before .before .before .is-off-reference .ensures ∙ ap (λ (p : Pos). offReference? (basesOf (a .args .reference .now)) p (field 3 (a .args .line .now)))
     (a .pre .2)) ∙ c .before .before .before .if3 .left)
     ∙ first-row-not _ _ (ap (λ (p : Pos). ltb (p .0) (a .args .last .0)) (sym (a .pre .2)) ∙ le-ltb _ _ (c .if4 .left))
     ∙ first-row-none [] tt)

@@ -6,6 +6,7 @@ use Prim.Native.Nat.{_+_, _-_, _≤_}
 use native.Mathlib.Omega.{arith}
 use borrow.Author.Needs.{needs}
 use lib.ListN.{length, take, drop}
+use Rattle.bases.specs.Letter.{basesOf}
 use Rattle.fields.specs.Bytes.{LF, until}
 use Rattle.vcf.specs.List.{linesOf, above, nextStage, lineRows, fault, judgeLines}
 use Rattle.records.specs.declared.row.LineFault.{LineFault}
@@ -18,7 +19,7 @@ use Rattle.vcf.proofs.list.judge.Tie as tie
 
 abbrev Inv-loop : tie.InvT-loop
 Inv-loop reference name text stage₀ n₀ at₀ stage n at =
-    (judgeLines reference name stage n (linesOf (drop at text)) ≡ judgeLines reference name above 1 (linesOf text))
+    (judgeLines (basesOf reference) name stage n (linesOf (drop at text)) ≡ judgeLines (basesOf reference) name above 1 (linesOf text))
     × (at ≤ length text + 1)
     × (n ≤ at + 1)
     × (stage .records ≤ n)
@@ -31,7 +32,7 @@ is-text-wrong-requires c κs = search needs
 
 returns : tie.Need-returns Inv-loop μ-loop
 returns c =
-    let r = c .before .before .before .before .before .args .reference .now in
+    let r = basesOf (c .before .before .before .before .before .args .reference .now) in
     let name = c .before .before .before .before .before .args .name .now in
     let t = c .before .before .before .before .before .args .text .now in
     sym (text-wrong r name t (sym (c .before .is-text-wrong .ensures) ∙ c .if1 .taken))
@@ -57,7 +58,7 @@ line-fault-requires c κs = search needs
 returns-2 : tie.Need-returns-2 Inv-loop μ-loop
 returns-2 c =
     let c8 = c .before .before .before .before .before .before .before .before in
-    let r = c .before .before .before .before .before .before .before .before .before .before .before .before .args .reference .now in
+    let r = basesOf (c .before .before .before .before .before .before .before .before .before .before .before .before .args .reference .now) in
     let name = c .before .before .before .before .before .before .before .before .before .before .before .before .args .name .now in
     let t = c .before .before .before .before .before .before .before .before .before .before .before .before .args .text .now in
     let s = c .before .before .before .before .before .before .loop .stage in
@@ -87,7 +88,7 @@ part-next-stage-end c =
 
 next-stage-requires : tie.Need-next-stage-requires Inv-loop μ-loop
 next-stage-requires c κs =
-    let r = c .before .before .before .before .before .before .before .before .before .before .before .before .before .args .reference .now in
+    let r = basesOf (c .before .before .before .before .before .before .before .before .before .before .before .before .before .args .reference .now) in
     let name = c .before .before .before .before .before .before .before .before .before .before .before .before .before .args .name .now in
     let t = c .before .before .before .before .before .before .before .before .before .before .before .before .before .args .text .now in
     let s = c .before .before .before .before .before .before .before .loop .stage in
@@ -112,7 +113,7 @@ loop-less c = omega arith
 
 loop-again : tie.Need-loop-again Inv-loop μ-loop
 loop-again c =
-    let r = c .before .before .before .before .before .before .before .before .before .before .before .before .before .before .args .reference .now in
+    let r = basesOf (c .before .before .before .before .before .before .before .before .before .before .before .before .before .before .args .reference .now) in
     let name = c .before .before .before .before .before .before .before .before .before .before .before .before .before .before .args .name .now in
     let t = c .before .before .before .before .before .before .before .before .before .before .before .before .before .before .args .text .now in
     let s = c .before .before .before .before .before .before .before .before .loop .stage in
@@ -134,7 +135,7 @@ loop-again c =
 
 returns-3 : tie.Need-returns-3 Inv-loop μ-loop
 returns-3 c =
-    let r = c .before .before .before .before .before .before .before .before .args .reference .now in
+    let r = basesOf (c .before .before .before .before .before .before .before .before .args .reference .now) in
     let name = c .before .before .before .before .before .before .before .before .args .name .now in
     let t = c .before .before .before .before .before .before .before .before .args .text .now in
     let s = c .before .before .loop .stage in
@@ -146,7 +147,7 @@ returns-3 c =
 
 returns-4 : tie.Need-returns-4 Inv-loop μ-loop
 returns-4 c =
-    let r = c .before .before .before .before .before .before .before .before .args .reference .now in
+    let r = basesOf (c .before .before .before .before .before .before .before .before .args .reference .now) in
     let name = c .before .before .before .before .before .before .before .before .args .name .now in
     let t = c .before .before .before .before .before .before .before .before .args .text .now in
     let s = c .before .before .loop .stage in

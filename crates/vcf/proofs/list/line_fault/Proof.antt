@@ -2,6 +2,7 @@
 use mathlib.Core.List.{[]}
 use mathlib.Core.Path.{sym, ap, _∙_}
 use borrow.Author.Needs.{needs}
+use Rattle.bases.specs.Letter.{basesOf}
 use Rattle.records.specs.Row.{firstRow}
 use Rattle.vcf.proofs.ListLaws.{rows-below, rows-above}
 use Rattle.records.proofs.RowLaws.{first-row-holds, first-row-not, first-row-none}
@@ -13,7 +14,7 @@ record-fault-requires c κs = search needs
 
 returns : tie.Need-returns
 returns c =
-    let r = c .before .before .before .before .before .args .reference .now in
+    let r = basesOf (c .before .before .before .before .before .args .reference .now) in
     let name = c .before .before .before .before .before .args .name .now in
     let s = c .before .before .before .before .before .args .stage in
     let n = c .before .before .before .before .before .args .n in
@@ -25,7 +26,7 @@ is-too-long-requires c κs = search needs
 
 returns-2 : tie.Need-returns-2
 returns-2 c =
-    let r = c .before .before .before .before .before .before .args .reference .now in
+    let r = basesOf (c .before .before .before .before .before .before .args .reference .now) in
     let name = c .before .before .before .before .before .before .args .name .now in
     let s = c .before .before .before .before .before .before .args .stage in
     let n = c .before .before .before .before .before .before .args .n in
@@ -39,7 +40,7 @@ header-wrong-requires c κs = search needs
 
 returns-3 : tie.Need-returns-3
 returns-3 c =
-    let r = c .before .before .before .before .before .before .before .before .args .reference .now in
+    let r = basesOf (c .before .before .before .before .before .before .before .before .args .reference .now) in
     let name = c .before .before .before .before .before .before .before .before .args .name .now in
     let s = c .before .before .before .before .before .before .before .before .args .stage in
     let n = c .before .before .before .before .before .before .before .before .args .n in
@@ -51,7 +52,7 @@ returns-3 c =
 
 returns-4 : tie.Need-returns-4
 returns-4 c =
-    let r = c .before .before .before .before .before .before .before .before .args .reference .now in
+    let r = basesOf (c .before .before .before .before .before .before .before .before .args .reference .now) in
     let name = c .before .before .before .before .before .before .before .before .args .name .now in
     let s = c .before .before .before .before .before .before .before .before .args .stage in
     let n = c .before .before .before .before .before .before .before .before .args .n in

@@ -6,7 +6,8 @@ use borrow.Author.Needs.{needs}
 use borrow.Author.Tests.{eq-eqb, ne-eqb}
 use lib.ListN.{length-append}
 use lib.Seq.{append-snoc}
-use Rattle.normal.specs.Spelled.{bytesSpelled}
+use Rattle.bases.specs.Letter.{basesOf}
+use Rattle.normal.specs.Spelled.{basesSpelled}
 use Rattle.bases.proofs.PutLaws.{put-fits, put-more}
 use Rattle.written.proofs.write.put_alts.Statement.{statement}
 use Rattle.written.proofs.write.put_alts.Tie as tie
@@ -15,8 +16,8 @@ put-spelled-requires : tie.Need-put-spelled-requires
 put-spelled-requires c κs =
     let a = c .before .before .before .before .before .before .args in
     let h = c .before .before .before .before .before .before .pre in
-    let x = bytesSpelled (a .reference .now) (a .line .now) (a .normal .start) (a .normal .first) in
-    let y = bytesSpelled (a .reference .now) (a .line .now) (a .normal .start) (a .normal .second) in
+    let x = basesSpelled (basesOf (a .reference .now)) (a .line .now) (a .normal .start) (a .normal .first) in
+    let y = basesSpelled (basesOf (a .reference .now)) (a .line .now) (a .normal .start) (a .normal .second) in
     let t = ne-eqb (a .alts) 2 (λ e. omega arith) in
     let room = rw t at (h .2) in
     (h .0, room)
@@ -28,8 +29,8 @@ returns : tie.Need-returns
 returns c =
     let a = c .before .before .before .before .before .before .before .before .before .args in
     let h = c .before .before .before .before .before .before .before .before .before .pre in
-    let x = bytesSpelled (a .reference .now) (a .line .now) (a .normal .start) (a .normal .first) in
-    let y = bytesSpelled (a .reference .now) (a .line .now) (a .normal .start) (a .normal .second) in
+    let x = basesSpelled (basesOf (a .reference .now)) (a .line .now) (a .normal .start) (a .normal .first) in
+    let y = basesSpelled (basesOf (a .reference .now)) (a .line .now) (a .normal .start) (a .normal .second) in
     let t = ne-eqb (a .alts) 2 (λ e. omega arith) in
     let room = rw t at (h .2) in
     let p = c .before .before .put-spelled in
@@ -39,8 +40,8 @@ put-spelled-requires-2 : tie.Need-put-spelled-requires-2
 put-spelled-requires-2 c κs =
     let a = c .before .before .before .before .before .before .args in
     let h = c .before .before .before .before .before .before .pre in
-    let x = bytesSpelled (a .reference .now) (a .line .now) (a .normal .start) (a .normal .first) in
-    let y = bytesSpelled (a .reference .now) (a .line .now) (a .normal .start) (a .normal .second) in
+    let x = basesSpelled (basesOf (a .reference .now)) (a .line .now) (a .normal .start) (a .normal .first) in
+    let y = basesSpelled (basesOf (a .reference .now)) (a .line .now) (a .normal .start) (a .normal .second) in
     let t = eq-eqb (a .alts) 2 (omega arith) in
     let room = rw t at (h .2) in
     let n = length-append x (44 ∷ y) in
@@ -50,8 +51,8 @@ put-byte-requires : tie.Need-put-byte-requires
 put-byte-requires c κs =
     let a = c .before .before .before .before .before .before .before .before .before .before .args in
     let h = c .before .before .before .before .before .before .before .before .before .before .pre in
-    let x = bytesSpelled (a .reference .now) (a .line .now) (a .normal .start) (a .normal .first) in
-    let y = bytesSpelled (a .reference .now) (a .line .now) (a .normal .start) (a .normal .second) in
+    let x = basesSpelled (basesOf (a .reference .now)) (a .line .now) (a .normal .start) (a .normal .first) in
+    let y = basesSpelled (basesOf (a .reference .now)) (a .line .now) (a .normal .start) (a .normal .second) in
     let t = eq-eqb (a .alts) 2 (omega arith) in
     let room = rw t at (h .2) in
     let n = length-append x (44 ∷ y) in
@@ -64,8 +65,8 @@ put-spelled-requires-3 : tie.Need-put-spelled-requires-3
 put-spelled-requires-3 c κs =
     let a = c .before .before .before .before .before .before .before .before .before .before .before .before .before .before .args in
     let h = c .before .before .before .before .before .before .before .before .before .before .before .before .before .before .pre in
-    let x = bytesSpelled (a .reference .now) (a .line .now) (a .normal .start) (a .normal .first) in
-    let y = bytesSpelled (a .reference .now) (a .line .now) (a .normal .start) (a .normal .second) in
+    let x = basesSpelled (basesOf (a .reference .now)) (a .line .now) (a .normal .start) (a .normal .first) in
+    let y = basesSpelled (basesOf (a .reference .now)) (a .line .now) (a .normal .start) (a .normal .second) in
     let t = eq-eqb (a .alts) 2 (omega arith) in
     let room = rw t at (h .2) in
     let n = length-append x (44 ∷ y) in
@@ -83,8 +84,8 @@ returns-2 : tie.Need-returns-2
 returns-2 c =
     let a = c .before .before .before .before .before .before .before .before .before .before .before .before .before .before .before .before .before .args in
     let h = c .before .before .before .before .before .before .before .before .before .before .before .before .before .before .before .before .before .pre in
-    let x = bytesSpelled (a .reference .now) (a .line .now) (a .normal .start) (a .normal .first) in
-    let y = bytesSpelled (a .reference .now) (a .line .now) (a .normal .start) (a .normal .second) in
+    let x = basesSpelled (basesOf (a .reference .now)) (a .line .now) (a .normal .start) (a .normal .first) in
+    let y = basesSpelled (basesOf (a .reference .now)) (a .line .now) (a .normal .start) (a .normal .second) in
     let t = eq-eqb (a .alts) 2 (omega arith) in
     let room = rw t at (h .2) in
     let n = length-append x (44 ∷ y) in

@@ -1,6 +1,7 @@
 -- `written::write::put_line` meets its contract: the line up to its REF is written, and from its REF on behind that. Assumes nothing.
 use native.Mathlib.Omega.{arith}
 use borrow.Author.Needs.{needs}
+use Rattle.bases.specs.Letter.{basesOf}
 use Rattle.bases.specs.Place.{posOf}
 use Rattle.written.specs.Put.{frontWith, backWith}
 use Rattle.bases.proofs.PutLaws.{room-front, put-to, put-room, put-on}
@@ -15,7 +16,7 @@ put-front-requires c κs =
     let a = c .before .before .before .before .before .before .args in
     let h = c .before .before .before .before .before .before .pre in
     let x = frontWith (a .line .now) (posOf (a .normal .start)) in
-    let room = room-front (a .out .now) (a .at) x (backWith (a .reference .now) (a .line .now) (a .alts) (a .normal)) (h .5) in
+    let room = room-front (a .out .now) (a .at) x (backWith (basesOf (a .reference .now)) (a .line .now) (a .alts) (a .normal)) (h .5) in
     rw (c .before .pos-of .ensures) (h .0, h .1, room)
 
 put-back-requires : tie.Need-put-back-requires
@@ -23,7 +24,7 @@ put-back-requires c κs =
     let a = c .before .before .before .before .before .before .before .before .before .before .args in
     let h = c .before .before .before .before .before .before .before .before .before .before .pre in
     let x = frontWith (a .line .now) (posOf (a .normal .start)) in
-    let room = room-front (a .out .now) (a .at) x (backWith (a .reference .now) (a .line .now) (a .alts) (a .normal)) (h .5) in
+    let room = room-front (a .out .now) (a .at) x (backWith (basesOf (a .reference .now)) (a .line .now) (a .alts) (a .normal)) (h .5) in
     let p = c .before .before .before .put-front in
     let o = c .before .before .before .before .before .pos-of in
     let p1 = put-to (a .out .now) (a .at) x (p .result) (p .last .1 .1 .0) room (rw (o .ensures) at (p .ensures .0)) (rw (o .ensures) at (p .ensures .1)) in
@@ -37,7 +38,7 @@ returns c =
     let a = c .before .before .before .before .before .before .before .before .before .before .before .before .before .args in
     let h = c .before .before .before .before .before .before .before .before .before .before .before .before .before .pre in
     let x = frontWith (a .line .now) (posOf (a .normal .start)) in
-    let room = room-front (a .out .now) (a .at) x (backWith (a .reference .now) (a .line .now) (a .alts) (a .normal)) (h .5) in
+    let room = room-front (a .out .now) (a .at) x (backWith (basesOf (a .reference .now)) (a .line .now) (a .alts) (a .normal)) (h .5) in
     let p = c .before .before .before .before .before .before .put-front in
     let o = c .before .before .before .before .before .before .before .before .pos-of in
     let p1 = put-to (a .out .now) (a .at) x (p .result) (p .last .1 .1 .0) room (rw (o .ensures) at (p .ensures .0)) (rw (o .ensures) at (p .ensures .1)) in
