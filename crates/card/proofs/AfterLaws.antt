@@ -11,6 +11,7 @@ use native.Mathlib.Nat.{zero-add}
 use native.Mathlib.Omega.{arith}
 use lib.ListN.{length, getD, take, drop, length-drop}
 use lib.Seq.{length-take-le}
+use Rattle.bases.specs.Letter.{basesOf}
 use Rattle.bases.specs.Put.{put}
 use Rattle.bases.proofs.PutLaws.{put-length, put-before, put-inside, put-behind, put-same, put-part}
 use Rattle.marks.specs.Marks.{marksOf, clustersOf, firstEntry, clusterAt, allMarks}
@@ -41,23 +42,23 @@ after-refused marks (markAll i) fits n =
     ap (put marks (i .from)) (all-refused (i .reference) (i .name) (i .first) (i .second) (i .plan) (lent marks i fits) (rw (lent-long marks i fits) n) .2)
     ∙ put-same marks (i .from) (omega arith) (i .room) fits
 
-module _ (reference name first second : List ℕ) (accepted1 : judgeText reference name first .number ≡ 0) (accepted2 : judgeText reference name second .number ≡ 0) where
+module _ (reference name first second : List ℕ) (accepted1 : judgeText (basesOf reference) name first .number ≡ 0) (accepted2 : judgeText (basesOf reference) name second .number ≡ 0) where
   abbrev cs : List (List Variant)
-  cs = clustersOf reference first second
+  cs = clustersOf (basesOf reference) first second
 
   -- how many entries there are, and the marks of all of them
   abbrev count : ℕ
-  count = length (mergedVariants reference first second)
+  count = length (mergedVariants (basesOf reference) first second)
 
   abbrev right : List ℕ
-  right = allMarks reference (clustersOf reference first second)
+  right = allMarks (basesOf reference) (clustersOf (basesOf reference) first second)
 
-  cluster-within : (k : ℕ) → firstEntry cs k + length (marksOf reference (clusterAt cs k)) ≤ count
+  cluster-within : (k : ℕ) → firstEntry cs k + length (marksOf (basesOf reference) (clusterAt cs k)) ≤ count
   cluster-within k =
-      omega (arith, marks-long reference (clusterAt cs k), first-within cs k, whole-long reference name first second accepted1 accepted2)
+      omega (arith, marks-long (basesOf reference) (clusterAt cs k), first-within cs k, whole-long (basesOf reference) name first second accepted1 accepted2)
 
   all-within : length right ≡ count
-  all-within = all-long reference cs ∙ whole-long reference name first second accepted1 accepted2
+  all-within = all-long (basesOf reference) cs ∙ whole-long (basesOf reference) name first second accepted1 accepted2
 
   -- What an answered call on these lists leaves: some of the marks of all entries, in their places, and at least those of the clusters that it asks for.
   pub record Wrote (marks : List ℕ) (c : Call) : Type 0 where
@@ -67,41 +68,43 @@ module _ (reference name first second : List ℕ) (accepted1 : judgeText referen
     pub within : at + length bytes ≤ count
     pub enough : count ≤ length marks
     pub same : (i : ℕ) → i < length bytes → getD bytes i 0 ≡ getD right (at + i) 0
-    pub asked : (k e : ℕ) → Asks k c → LiesIn reference first second k e → (at ≤ e) × (e < at + length bytes)
+    pub asked : (k e : ℕ) → Asks k c → LiesIn (basesOf reference) first second k e → (at ≤ e) × (e < at + length bytes)
 
   pub after-answered : (marks : List ℕ) (c : Call) → inputOf c .from + inputOf c .room ≤ length marks → OnThese reference name first second (inputOf c) → refusalOf c .number ≡ 0 → Wrote marks c
   after-answered marks (mark i k) fits o z =
       let part = lent marks i fits in
       let asked = mark-asked (i .reference) (i .name) (i .first) (i .second) (i .plan) k (i .room) z in
-      let most = entries-most reference name first second accepted1 accepted2 in
+      let most = entries-most (basesOf reference) name first second accepted1 accepted2 in
       let wrote = mark-written (i .reference) (i .name) (i .first) (i .second) (i .plan) k part (rw (lent-long marks i fits) z) in
-      let these : put part (firstEntry (clustersOf (i .reference) (i .first) (i .second)) k) (marksOf (i .reference) (clusterAt (clustersOf (i .reference) (i .first) (i .second)) k))
-      ≡ put part (firstEntry cs k) (marksOf reference (clusterAt cs k)) =
+      let these : put part (firstEntry (clustersOf (basesOf (i .reference)) (i .first) (i .second)) k)
+      (marksOf (basesOf (i .reference)) (clusterAt (clustersOf (basesOf (i .reference)) (i .first) (i .second)) k))
+      ≡ put part (firstEntry cs k) (marksOf (basesOf reference) (clusterAt cs k)) =
       rw (o .reference-same, o .first-same, o .second-same) in
       record {
         at = firstEntry cs k;
-        bytes = marksOf reference (clusterAt cs k);
+        bytes = marksOf (basesOf reference) (clusterAt cs k);
         wrote =
             ap (put marks (i .from)) (wrote ∙ these)
-            ∙ rw (o .from-first) (put-part marks (firstEntry cs k) (omega (arith, cluster-within k, asked .roomy)) (marksOf reference (clusterAt cs k)) (i .room)
+            ∙ rw (o .from-first) (put-part marks (firstEntry cs k) (omega (arith, cluster-within k, asked .roomy)) (marksOf (basesOf reference) (clusterAt cs k)) (i .room)
             (omega (arith, cluster-within k, asked .roomy)) (omega arith));
         within = cluster-within k;
         enough = omega (arith, asked .roomy);
-        same = λ j h. sym (joined-at (marksOf reference) (marks-long reference) (marks-none reference) cs k j 0 (omega (arith, marks-long reference (clusterAt cs k))));
+        same = λ j h. sym (joined-at (marksOf (basesOf reference)) (marks-long (basesOf reference)) (marks-none (basesOf reference)) cs k j 0
+            (omega (arith, marks-long (basesOf reference) (clusterAt cs k))));
         asked = λ j e a l. own j e (omega (arith, a)) l;
       }
     where
-      own : (j e : ℕ) → j ≡ k → LiesIn reference first second j e → (firstEntry cs k ≤ e) × (e < firstEntry cs k + length (marksOf reference (clusterAt cs k)))
+      own : (j e : ℕ) → j ≡ k → LiesIn (basesOf reference) first second j e → (firstEntry cs k ≤ e) × (e < firstEntry cs k + length (marksOf (basesOf reference) (clusterAt cs k)))
       own j e s l =
-          let l′ : LiesIn reference first second k e = rw s at l in
-          (omega (arith, l′ .begun), omega (arith, l′ .inside, marks-long reference (clusterAt cs k)))
+          let l′ : LiesIn (basesOf reference) first second k e = rw s at l in
+          (omega (arith, l′ .begun), omega (arith, l′ .inside, marks-long (basesOf reference) (clusterAt cs k)))
   after-answered marks (markAll i) fits o z =
       let part = lent marks i fits in
-      let most = entries-most reference name first second accepted1 accepted2 in
+      let most = entries-most (basesOf reference) name first second accepted1 accepted2 in
       let z′ : allRefusal (i .reference) (i .name) (i .first) (i .second) (length (i .plan)) (length part) .number ≡ 0 = rw (lent-long marks i fits) z in
       let roomy = all-roomy (i .reference) (i .name) (i .first) (i .second) (i .plan) part z′ in
       let wrote = all-given (i .reference) (i .name) (i .first) (i .second) (i .plan) part z′ .2 in
-      let these : put part 0 (allMarks (i .reference) (clustersOf (i .reference) (i .first) (i .second))) ≡ put part 0 right =
+      let these : put part 0 (allMarks (basesOf (i .reference)) (clustersOf (basesOf (i .reference)) (i .first) (i .second))) ≡ put part 0 right =
       rw (o .reference-same, o .first-same, o .second-same) in
       record {
         at = 0;
@@ -112,7 +115,7 @@ module _ (reference name first second : List ℕ) (accepted1 : judgeText referen
         within = omega (arith, all-within);
         enough = omega (arith, roomy, lent-long marks i fits);
         same = λ j h. ap (λ (n : ℕ). getD right n 0) (sym (zero-add j));
-        asked = λ j e a l. (omega arith, omega (arith, all-within, first-within cs j, whole-long reference name first second accepted1 accepted2, l .inside));
+        asked = λ j e a l. (omega arith, omega (arith, all-within, first-within cs j, whole-long (basesOf reference) name first second accepted1 accepted2, l .inside));
       }
 
   -- A call is refused, or it writes.
@@ -164,7 +167,7 @@ module _ (reference name first second : List ℕ) (accepted1 : judgeText referen
     after-entry e s =
         ⊎-elim (λ r. ap (λ (l : List ℕ). getD l e 0) r ∙ s) (λ w. either e w (decLt e (w .at)) (decLt e (w .at + length (w .bytes))) s) (told marks c a)
 
-    pub after-asked : (k e : ℕ) → LiesIn reference first second k e → Answers reference name first second k c → getD (after marks c) e 0 ≡ getD right e 0
+    pub after-asked : (k e : ℕ) → LiesIn (basesOf reference) first second k e → Answers reference name first second k c → getD (after marks c) e 0 ≡ getD right e 0
     after-asked k e l (o, asks, z) =
         let w = after-answered marks c (a .0) o z in
         let (h, m) = w .asked k e asks l in

@@ -25,6 +25,7 @@ use lib.ListN.{length, take, drop, length-drop}
 use lib.Seq.{length-take-le}
 use Rattle.bases.specs.Place.{placeOf}
 use Rattle.bases.specs.Letter.{basesOf}
+use Rattle.bases.proofs.LetterLaws.{bases-length, bases-part}
 use Rattle.bases.proofs.ReferenceLaws.{reference-iff}
 use Rattle.bases.specs.Pick.{pick}
 use Rattle.vcf.specs.declared.entry.Entry.{Entry}
@@ -121,7 +122,7 @@ module _ (reference name text : List ℕ) (i k : ℕ) where
     reference-shown e = ap (bytesShown reference text) (shown-zero e)
 
     pub reference-same : k ≡ 0 → basesOf (bytesShown reference text (shown reference name text i k)) ≡ basesOf (field 3 line)
-    reference-same e = ap basesOf (reference-shown e) ∙ sym (a .line .same)
+    reference-same e = ap basesOf (reference-shown e) ∙ bases-part reference (placeOf (posOn line) .0) (length (field 3 line)) ∙ sym (a .line .same)
 
     pub first-shown : k ≡ 1 → bytesShown reference text (shown reference name text i k) ≡ firstAlt (field 4 line)
     first-shown e = ap (bytesShown reference text) (shown-one e) ∙ first-bytes text (recordAt text i) inside (a .line .ten)
@@ -141,7 +142,7 @@ module _ (reference name text : List ℕ) (i k : ℕ) where
 
     there-fits : Fits (shown reference name text i k)
     there-fits = ⊎-elim
-        (λ e. rw (shown-zero e) (a .line .within))
+        (λ e. rw (shown-zero e) (rw (bases-length reference) at (a .line .within)))
         (⊎-elim
         (λ e. rw (shown-one e) (first-within text (recordAt text i) inside (a .line .ten)))
         (λ e. rw (shown-two e) (second-within text (recordAt text i) inside (a .line .ten) (two e))))
@@ -149,7 +150,7 @@ module _ (reference name text : List ℕ) (i k : ℕ) where
 
     there-some : 1 ≤ length (bytesShown reference text (shown reference name text i k))
     there-some = ⊎-elim
-        (λ e. rw (reference-shown e, length-take-le (length (field 3 line)) (drop (placeOf (posOn line) .0) reference) (rw length-drop (omega (arith, a .line .within))))
+        (λ e. rw (reference-shown e, length-take-le (length (field 3 line)) (drop (placeOf (posOn line) .0) reference) (rw length-drop (omega (arith, bases-length reference, a .line .within))))
         (allele-some (field 3 line) (a .line .ref)))
         (⊎-elim
         (λ e. rw (first-shown e) (allele-some (firstAlt (field 4 line)) (a .line .alts .first)))
@@ -170,7 +171,7 @@ module _ (reference name text : List ℕ) (i k : ℕ) where
   shown-short = go (ℕ-discrete (alleleRefusal reference name text i k .number) 0)
     where
       short : Answered reference name text i k → (b : Bool) → length (pick b text reference) ≤ longestText
-      short a true = text-fits text (accepted-zero reference name text (a .accepted) .fits)
+      short a true = text-fits text (accepted-zero (basesOf reference) name text (a .accepted) .fits)
       short a false = omega (arith, reference-iff reference .0 (a .right) .1)
 
       go : Dec (alleleRefusal reference name text i k .number ≡ 0) → shown reference name text i k .part .at + shown reference name text i k .part .len ≤ longestText

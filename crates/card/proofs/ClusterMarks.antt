@@ -13,7 +13,6 @@ use Prim.Native.Nat.{ℕ, zero, suc, _+_, _≤_, _<_}
 use native.Mathlib.Omega.{arith}
 use borrow.Author.Tests.{leb-false, le-leb, lt-leb}
 use lib.ListN.{length, getD, replicate, length-append, length-replicate, getD-replicate}
-use Rattle.bases.specs.Letter.{basesOf}
 use Rattle.bases.specs.Pick.{pick}
 use Rattle.marks.specs.Marks.{QUESTION, decided?, marksOf, clustersOf, firstEntry, clusterAt, allMarks}
 use Rattle.clusters.specs.Merged.{mergedItems, mergedVariants}
@@ -71,8 +70,8 @@ module _ (reference : List ℕ) where
   pub marks-long : (c : List Variant) → length (marksOf reference c) ≡ length c
   marks-long c = go (decided? c)
     where
-      go : (t : Bool) → length (pick t (map byteOf (cardBest (basesOf reference) c)) (replicate (length c) QUESTION)) ≡ length c
-      go true = bytes-long (basesOf reference) c
+      go : (t : Bool) → length (pick t (map byteOf (cardBest reference c)) (replicate (length c) QUESTION)) ≡ length c
+      go true = bytes-long reference c
       go false = length-replicate (length c) QUESTION
 
   pub marks-none : marksOf reference [] ≡ []
@@ -117,12 +116,12 @@ module _ (reference : List ℕ) where
           accepted-few reference name second accepted2,
         )
 
-    whole : map byteOf (cardBest (basesOf reference) (mergedVariants reference first second))
-        ≡ join (map (λ (c : List Variant). map byteOf (cardBest (basesOf reference) c)) (clustersOf reference first second))
+    whole : map byteOf (cardBest reference (mergedVariants reference first second))
+        ≡ join (map (λ (c : List Variant). map byteOf (cardBest reference c)) (clustersOf reference first second))
     whole =
         ap (map byteOf) (clusters-best reference name first second accepted1 accepted2)
-        ∙ map-join byteOf (map (cardBest (basesOf reference)) cs)
-        ∙ ap join (map-map (cardBest (basesOf reference)) (map byteOf) cs)
+        ∙ map-join byteOf (map (cardBest reference) cs)
+        ∙ ap join (map-map (cardBest reference) (map byteOf) cs)
 
     module _ (k i : ℕ) (h : i < length (clusterAt (clustersOf reference first second) k)) where
       abbrev c : List Variant
@@ -130,11 +129,11 @@ module _ (reference : List ℕ) where
 
       pub mark-best : length (clusterAt (clustersOf reference first second) k) ≤ most
           → getD (marksOf reference (clusterAt (clustersOf reference first second) k)) i 0
-          ≡ getD (map byteOf (cardBest (basesOf reference) (mergedVariants reference first second))) (firstEntry (clustersOf reference first second) k + i) 0
+          ≡ getD (map byteOf (cardBest reference (mergedVariants reference first second))) (firstEntry (clustersOf reference first second) k + i) 0
       mark-best small =
           rw (le-leb (length c) most small)
           (sym (ap (λ (l : List ℕ). getD l (firstEntry cs k + i) 0) whole
-          ∙ joined-at (λ (c : List Variant). map byteOf (cardBest (basesOf reference) c)) (bytes-long (basesOf reference)) (empty-of _ (bytes-long (basesOf reference) [])) cs k i 0 h))
+          ∙ joined-at (λ (c : List Variant). map byteOf (cardBest reference c)) (bytes-long reference) (empty-of _ (bytes-long reference [])) cs k i 0 h))
 
       pub mark-question : most < length (clusterAt (clustersOf reference first second) k) → getD (marksOf reference (clusterAt (clustersOf reference first second) k)) i 0 ≡ QUESTION
       mark-question large = rw (lt-leb (length c) most large) (getD-replicate (length c) i QUESTION 0 h)
@@ -142,6 +141,6 @@ module _ (reference : List ℕ) where
       pub mark-only : getD (marksOf reference (clusterAt (clustersOf reference first second) k)) i 0 ≡ QUESTION → most < length (clusterAt (clustersOf reference first second) k)
       mark-only = go (decided? c) refl
         where
-          go : (t : Bool) → decided? c ≡ t → getD (pick t (map byteOf (cardBest (basesOf reference) c)) (replicate (length c) QUESTION)) i 0 ≡ QUESTION → most < length c
-          go true e q = absurd (byte-not (cardBest (basesOf reference) c) i (omega (arith, best-long (basesOf reference) c)) q)
+          go : (t : Bool) → decided? c ≡ t → getD (pick t (map byteOf (cardBest reference c)) (replicate (length c) QUESTION)) i 0 ≡ QUESTION → most < length c
+          go true e q = absurd (byte-not (cardBest reference c) i (omega (arith, best-long reference c)) q)
           go false e q = leb-false (length c) most e

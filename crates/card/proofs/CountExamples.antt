@@ -9,7 +9,7 @@ use Prim.Native.Char.{code}
 use Prim.Native.Nat.{ℕ}
 use lib.ListN.{replicate}
 use Rattle.bases.specs.First.{firstTold}
-use Rattle.bases.specs.Letter.{among?, letterOf, allLetters?}
+use Rattle.bases.specs.Letter.{letterAmong, letterOf, allLetters?}
 use Rattle.bases.specs.Same.{agree?}
 use Rattle.marks.specs.Counts.{howMany, ownMarks}
 use Rattle.clusters.specs.Merged.{weave, merged}
@@ -33,16 +33,16 @@ of marks =
 
 pub each-list : of (ascii "+0?" ++ replicate 1021 (code "+"))
     ≡ countedOf (answer 0 0 0 0 0) (record { first = record { matched = 0; unmatched = 1; undecided = 0 }; second = record { matched = 1; unmatched = 0; undecided = 1 } })
-unfolding among? letterOf allLetters? agree? weave merged join until headerBytes entriesFrom full? skip copiesWrong? headerWrong? linesOf judgeLines judgeText allDigits? isPos? valueFrom
+unfolding letterAmong letterOf allLetters? agree? weave merged join until headerBytes entriesFrom full? skip copiesWrong? headerWrong? linesOf judgeLines judgeText allDigits? isPos? valueFrom
     firstTold howMany ownMarks
 each-list = refl
 
 pub no-mark : of (ascii "T0+" ++ replicate 1021 (code "+"))
     ≡ countedOf (answer 0 0 0 0 0) (record { first = record { matched = 0; unmatched = 1; undecided = 0 }; second = record { matched = 1; unmatched = 0; undecided = 0 } })
-unfolding among? letterOf allLetters? agree? weave merged join until headerBytes entriesFrom full? skip copiesWrong? headerWrong? linesOf judgeLines judgeText allDigits? isPos? valueFrom
+unfolding letterAmong letterOf allLetters? agree? weave merged join until headerBytes entriesFrom full? skip copiesWrong? headerWrong? linesOf judgeLines judgeText allDigits? isPos? valueFrom
     firstTold howMany ownMarks
 no-mark = refl
 
 pub too-few : of (ascii "+0?" ++ replicate 1020 (code "+")) ≡ countedOf (answer 2 0 0 0 0) noCounts
-unfolding among? letterOf allLetters? firstTold
+unfolding letterAmong letterOf allLetters? firstTold
 too-few = refl

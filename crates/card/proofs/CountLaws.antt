@@ -14,6 +14,7 @@ use borrow.Author.Tests.{eq-eqb, ne-eqb, ltb-false}
 use lib.Dec.{ltb}
 use lib.ListN.{length, take}
 use lib.Seq.{take-append-seam}
+use Rattle.bases.specs.Letter.{basesOf}
 use Rattle.bases.specs.Put.{put}
 use Rattle.bases.proofs.PutLaws.{put-length}
 use Rattle.bases.proofs.TestLaws.{neither}
@@ -73,18 +74,18 @@ module _ (reference name first second marks : List ℕ) where
 module _ (reference name first second : List ℕ) (plan : List Cluster) (marks : List ℕ) (z : allRefusal reference name first second (length plan) (length marks) .number ≡ 0) where
   -- the marks of all clusters
   abbrev these : List ℕ
-  these = allMarks reference (clustersOf reference first second)
+  these = allMarks (basesOf reference) (clustersOf (basesOf reference) first second)
 
   pub count-marked : (countRefusal reference name first second (allBytes reference name first second plan marks) .number ≡ 0)
       × AddUp first second (counted reference name first second (allBytes reference name first second plan marks))
   count-marked =
       let r = lists-read reference name first (smallRoom? (length plan) (length marks)) second z in
       let most = lists-answerable reference name first second (smallRoom? (length plan) (length marks)) z .0 .entries in
-      let long = marks-all reference name first second (r .0 .accepted) (r .1) in
+      let long = marks-all (basesOf reference) name first second (r .0 .accepted) (r .1) in
       let roomy = neither (ltb (length plan) leastRoom) (ltb (length marks) leastRoom) (r .0 .roomy) .1 in
       let same : length (put marks 0 these) ≡ length marks = put-length marks 0 (omega arith) these (omega (arith, ltb-false (length marks) leastRoom roomy)) in
       let left : ltb (length (put marks 0 these)) leastRoom ≡ smallRoom? (length plan) (length marks) = ap (λ (n : ℕ). ltb n leastRoom) same ∙ roomy ∙ sym (r .0 .roomy) in
       let e : countRefusal reference name first second (put marks 0 these) .number ≡ 0 = rw left z in
       let front : take (length (mergedItems first second)) (put marks 0 these) ≡ these = ap (λ (n : ℕ). take n (put marks 0 these)) (sym long) ∙ take-append-seam these _ in
       rw (all-given reference name first second plan marks z .2)
-      (e, count-entries reference name first second (put marks 0 these) e (rw front (all-marked reference (clustersOf reference first second))))
+      (e, count-entries reference name first second (put marks 0 these) e (rw front (all-marked (basesOf reference) (clustersOf (basesOf reference) first second))))

@@ -22,7 +22,7 @@ use Rattle.card.specs.Demand.{Call, after, afterAll, Allowed, Answers, E
 use Rattle.card.proofs.AfterLaws.{after-long, after-others, after-entry, after-asked}
 use Rattle.card.proofs.EntryLaws.{lies-somewhere, entry-marked, marked-same}
 
-module _ (reference name first second : List ℕ) (accepted1 : judgeText reference name first .number ≡ 0) (accepted2 : judgeText reference name second .number ≡ 0) where
+module _ (reference name first second : List ℕ) (accepted1 : judgeText (basesOf reference) name first .number ≡ 0) (accepted2 : judgeText (basesOf reference) name second .number ≡ 0) where
   abbrev AllAllowed : ℕ → List Call → Type 0
   AllAllowed n calls = All (Allowed reference name first second n) calls
 
@@ -36,7 +36,7 @@ module _ (reference name first second : List ℕ) (accepted1 : judgeText referen
   calls-long (c ∷ calls) marks a =
       calls-long calls (after marks c) (left c calls marks a) ∙ after-long reference name first second accepted1 accepted2 marks c (a .0)
 
-  calls-others : (calls : List Call) (marks : List ℕ) → AllAllowed (length marks) calls → (e : ℕ) → length (mergedVariants reference first second) ≤ e
+  calls-others : (calls : List Call) (marks : List ℕ) → AllAllowed (length marks) calls → (e : ℕ) → length (mergedVariants (basesOf reference) first second) ≤ e
       → getD (afterAll marks calls) e 0 ≡ getD marks e 0
   unfolding afterAll
   calls-others [] marks a e h = refl
@@ -45,7 +45,7 @@ module _ (reference name first second : List ℕ) (accepted1 : judgeText referen
 
   -- The mark of entry e is that which its cluster has.
   abbrev Right : ℕ → List ℕ → Type 0
-  Right e marks = getD marks e 0 ≡ getD (allMarks reference (clustersOf reference first second)) e 0
+  Right e marks = getD marks e 0 ≡ getD (allMarks (basesOf reference) (clustersOf (basesOf reference) first second)) e 0
 
   calls-kept : (e : ℕ) (calls : List Call) (marks : List ℕ) → AllAllowed (length marks) calls → Right e marks → Right e (afterAll marks calls)
   unfolding afterAll
@@ -53,7 +53,7 @@ module _ (reference name first second : List ℕ) (accepted1 : judgeText referen
   calls-kept e (c ∷ calls) marks a r =
       calls-kept e calls (after marks c) (left c calls marks a) (after-entry reference name first second accepted1 accepted2 marks c (a .0) e r)
 
-  calls-asked : (k e : ℕ) → LiesIn reference first second k e → (calls : List Call) (marks : List ℕ) → AllAllowed (length marks) calls → Some (Answers reference name first second k) calls
+  calls-asked : (k e : ℕ) → LiesIn (basesOf reference) first second k e → (calls : List Call) (marks : List ℕ) → AllAllowed (length marks) calls → Some (Answers reference name first second k) calls
       → Right e (afterAll marks calls)
   unfolding afterAll
   calls-asked k e l [] marks a s = absurd s
@@ -62,13 +62,13 @@ module _ (reference name first second : List ℕ) (accepted1 : judgeText referen
   calls-asked k e l (c ∷ calls) marks a (inr s) = calls-asked k e l calls (after marks c) (left c calls marks a) s
 
   pub demand-3 : (calls : List Call) (marks : List ℕ) → All (Allowed reference name first second (length marks)) calls → EachAnswered reference name first second calls
-      → EntriesMarked reference first second marks (afterAll marks calls)
+      → EntriesMarked (basesOf reference) first second marks (afterAll marks calls)
   demand-3 calls marks a each = record {
-    pair = cardBest (basesOf reference) (mergedVariants reference first second);
-    is-best = rw (clusters-best reference name first second accepted1 accepted2) (clusters-pair reference name first second accepted1 accepted2 .0);
+    pair = cardBest (basesOf reference) (mergedVariants (basesOf reference) first second);
+    is-best = rw (clusters-best (basesOf reference) name first second accepted1 accepted2) (clusters-pair (basesOf reference) name first second accepted1 accepted2 .0);
     entries = λ e h.
-        let (k, l) = lies-somewhere reference name first second accepted1 accepted2 e h in
-        entry-marked reference name first second accepted1 accepted2 (afterAll marks calls) k e l (calls-asked k e l calls marks a (each k (omega (arith, l .there))));
+        let (k, l) = lies-somewhere (basesOf reference) name first second accepted1 accepted2 e h in
+        entry-marked (basesOf reference) name first second accepted1 accepted2 (afterAll marks calls) k e l (calls-asked k e l calls marks a (each k (omega (arith, l .there))));
     others = λ e behind. calls-others calls marks a e (omega arith);
     long = calls-long calls marks a;
   }
@@ -77,4 +77,4 @@ module _ (reference name first second : List ℕ) (accepted1 : judgeText referen
       → All (Allowed reference name first second (length marks)) others → EachAnswered reference name first second others
       → afterAll marks calls ≡ afterAll marks others
   demand-3-same marks calls others a each b all =
-      marked-same reference name first second accepted1 accepted2 marks (afterAll marks calls) (afterAll marks others) (demand-3 calls marks a each) (demand-3 others marks b all)
+      marked-same (basesOf reference) name first second accepted1 accepted2 marks (afterAll marks calls) (afterAll marks others) (demand-3 calls marks a each) (demand-3 others marks b all)

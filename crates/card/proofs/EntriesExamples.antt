@@ -7,7 +7,7 @@ use mathlib.Core.List.{List, [], _∷_}
 use mathlib.Core.Path.{_≡_, refl}
 use Prim.Native.Nat.{ℕ}
 use Rattle.bases.specs.First.{firstTold}
-use Rattle.bases.specs.Letter.{among?, letterOf, allLetters?}
+use Rattle.bases.specs.Letter.{letterAmong, letterOf, allLetters?}
 use Rattle.bases.specs.Period.{anyPeriod?}
 use Rattle.bases.specs.Same.{agree?}
 use Rattle.listed.specs.declared.listed.Listed.{Listed}
@@ -38,24 +38,24 @@ abbrev second9 : List ℕ
 second9 = text (hom "1" "TG" "T" ∷ hom "5" "G" "GA" ∷ [])
 
 pub example-9 : listedOf (ascii "TGCCGT") first9 second9 ≡ entry 2 0 3 0 ∷ entry 1 0 3 0 ∷ entry 2 1 4 0 ∷ []
-unfolding among? letterOf allLetters? anyPeriod? agree? numbersFrom listedFrom weave merged rest plan recordsFrom join until headerBytes headerLines entriesFrom skip linesOf
+unfolding letterAmong letterOf allLetters? anyPeriod? agree? numbersFrom listedFrom weave merged rest plan recordsFrom join until headerBytes headerLines entriesFrom skip linesOf
     allDigits? isPos? valueFrom
 example-9 = refl
 
 pub example-7 : listedOf (ascii "TATGCAGT") (text (hom "1" "TAT" "T" ∷ [])) (text (hom "7" "G" "C" ∷ [])) ≡ entry 1 0 3 0 ∷ entry 2 0 3 1 ∷ []
-unfolding among? letterOf allLetters? anyPeriod? agree? numbersFrom listedFrom weave merged rest plan recordsFrom join until headerBytes headerLines entriesFrom skip linesOf
+unfolding letterAmong letterOf allLetters? anyPeriod? agree? numbersFrom listedFrom weave merged rest plan recordsFrom join until headerBytes headerLines entriesFrom skip linesOf
     allDigits? isPos? valueFrom
 example-7 = refl
 
 pub answered : listed (ascii "TGCCGT") chr1 first9 second9 1024 ≡ answer 0 0 0 0 3
-unfolding among? letterOf allLetters? anyPeriod? agree? numbersFrom listedFrom weave merged rest plan recordsFrom join until headerBytes headerLines entriesFrom full? skip copiesWrong?
+unfolding letterAmong letterOf allLetters? anyPeriod? agree? numbersFrom listedFrom weave merged rest plan recordsFrom join until headerBytes headerLines entriesFrom full? skip copiesWrong?
     headerWrong? linesOf judgeLines judgeText allDigits? isPos? valueFrom firstTold
 answered = refl
 
 pub too-few : listed (ascii "TGCCGT") chr1 first9 second9 1023 ≡ answer 2 0 0 0 0
-unfolding among? letterOf allLetters? firstTold
+unfolding letterAmong letterOf allLetters? firstTold
 too-few = refl
 
 pub unwritten : listedAfter (ascii "TGCCGT") chr1 first9 second9 (entry 0 0 0 0 ∷ []) ≡ entry 0 0 0 0 ∷ []
-unfolding among? letterOf allLetters? firstTold
+unfolding letterAmong letterOf allLetters? firstTold
 unwritten = refl

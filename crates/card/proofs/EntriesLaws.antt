@@ -11,6 +11,7 @@ use Prim.Native.Nat.{ℕ, zero, suc, _+_, _<_}
 use native.Mathlib.Omega.{arith}
 use lib.Dec.{ltb}
 use lib.ListN.{length, take, getD, length-append}
+use Rattle.bases.specs.Letter.{basesOf}
 use Rattle.clusters.specs.declared.plan.Cluster.{Cluster}
 use Rattle.listed.specs.Listed.{listedOf}
 use Rattle.listed.specs.Listing.{notListed}
@@ -41,11 +42,11 @@ module _ (reference name first second : List ℕ) (room : ℕ) where
   entries-answered-iff = plan-answered-iff reference name first second room
 
   pub entries-marks : listedRefusal reference name first second room .number ≡ 0
-      → listed reference name first second room ≡ answer 0 0 0 0 (length (allMarks reference (clustersOf reference first second)))
+      → listed reference name first second room ≡ answer 0 0 0 0 (length (allMarks (basesOf reference) (clustersOf (basesOf reference) first second)))
   entries-marks z =
       let r = lists-read reference name first (ltb room leastRoom) second z in
-      answer-given {A = ℕ} (listedRefusal reference name first second room) (length (listedOf reference first second)) [] [] z .0
-      ∙ ap (answer 0 0 0 0) (listed-length reference first second ∙ sym (marks-all reference name first second (r .0 .accepted) (r .1)))
+      answer-given {A = ℕ} (listedRefusal reference name first second room) (length (listedOf (basesOf reference) first second)) [] [] z .0
+      ∙ ap (answer 0 0 0 0) (listed-length (basesOf reference) first second ∙ sym (marks-all (basesOf reference) name first second (r .0 .accepted) (r .1)))
 
 -- Record k of clusters has the first entry of cluster k, and its number of entries.
 record-at : {X : Type 0} (cs : List (List X)) (i k : ℕ) (d : Cluster) → k < length cs

@@ -10,7 +10,6 @@ use native.Mathlib.Decide.{decLt}
 use native.Mathlib.Omega.{arith}
 use lib.ListN.{length, getD}
 use lib.Seq.{ext-getD}
-use Rattle.bases.specs.Letter.{basesOf}
 use Rattle.marks.specs.Marks.{marksOf, clustersOf, firstEntry, clusterAt, allMarks}
 use Rattle.clusters.specs.Merged.{mergedVariants}
 use Rattle.clusters.proofs.CardClusters.{clusters-pair}
@@ -59,7 +58,7 @@ module _ (reference name first second : List ℕ) (accepted1 : judgeText referen
 
   pub entry-marked : (marks : List ℕ) (k e : ℕ) → LiesIn reference first second k e
       → getD marks e 0 ≡ getD (allMarks reference (clustersOf reference first second)) e 0
-      → EntryMarked reference first second (cardBest (basesOf reference) (mergedVariants reference first second)) marks e
+      → EntryMarked reference first second (cardBest reference (mergedVariants reference first second)) marks e
   entry-marked marks k e l right =
       let i = e - firstEntry cs k in
       let inside : i < length (clusterAt cs k) = omega (arith, l .begun, l .inside) in
@@ -72,7 +71,7 @@ module _ (reference name first second : List ℕ) (accepted1 : judgeText referen
         best = λ small.
             own
             ∙ mark-best reference name first second accepted1 accepted2 k i inside (omega arith)
-            ∙ ap (λ (n : ℕ). getD (map byteOf (cardBest (basesOf reference) (mergedVariants reference first second))) n 0) same;
+            ∙ ap (λ (n : ℕ). getD (map byteOf (cardBest reference (mergedVariants reference first second))) n 0) same;
         undecided = λ large. own ∙ mark-question reference name first second accepted1 accepted2 k i inside (omega arith);
         only-those = λ q. omega (arith, mark-only reference name first second accepted1 accepted2 k i inside (sym own ∙ q));
       }

@@ -3,7 +3,7 @@
 use mathlib.Core.Bool.{true}
 use mathlib.Core.Path.{_≡_, refl}
 use Rattle.bases.specs.First.{firstTold}
-use Rattle.bases.specs.Letter.{among?, letterOf, allLetters?}
+use Rattle.bases.specs.Letter.{letterAmong, letterOf, allLetters?, basesOf}
 use Rattle.bases.specs.Period.{anyPeriod?}
 use Rattle.bases.specs.Reference.{isReference?}
 use Rattle.bases.specs.Same.{agree?}
@@ -33,15 +33,15 @@ use Rattle.card.specs.Examples.{ascii, chr1, Example, normal, marks, tab
 abbrev pub Holds : Example → Type 0
 Holds (normal spelt text written) =
     let reference = ascii spelt in
-    (isReference? reference ≡ true) × (judgeText reference chr1 text .number ≡ 0) × (writtenText reference text ≡ written)
+    (isReference? reference ≡ true) × (judgeText (basesOf reference) chr1 text .number ≡ 0) × (writtenText (basesOf reference) text ≡ written)
 Holds (marks spelt first second records bytes total) =
     let reference = ascii spelt in
     (isReference? reference ≡ true)
-    × (judgeText reference chr1 first .number ≡ 0)
-    × (judgeText reference chr1 second .number ≡ 0)
-    × (planOf reference first second ≡ records)
-    × (allMarks reference (clustersOf reference first second) ≡ ascii bytes)
-    × (totalScore reference (clustersOf reference first second) ≡ total)
+    × (judgeText (basesOf reference) chr1 first .number ≡ 0)
+    × (judgeText (basesOf reference) chr1 second .number ≡ 0)
+    × (planOf (basesOf reference) first second ≡ records)
+    × (allMarks (basesOf reference) (clustersOf (basesOf reference) first second) ≡ ascii bytes)
+    × (totalScore (basesOf reference) (clustersOf (basesOf reference) first second) ≡ total)
 
 -- Three equations that compute, and six.
 pub three : {A B C : Type 0} {a : A} {b : B} {c : C} → (a ≡ a) × (b ≡ b) × (c ≡ c)
@@ -51,7 +51,7 @@ pub six : {A B C D E F : Type 0} {a : A} {b : B} {c : C} {d : D} {e : E} {f : F}
 six = (refl, refl, refl, refl, refl, refl)
 
 pub examples : All Holds table
-unfolding among? letterOf allLetters? anyPeriod? agree? weave merged rest plan recordsFrom totalScore chain? donorFrom edits score every? allowed? bestOf join first? better bestOver search run all?
+unfolding letterAmong letterOf allLetters? anyPeriod? agree? weave merged rest plan recordsFrom totalScore chain? donorFrom edits score every? allowed? bestOf join first? better bestOver search run all?
     shortest normalEntry digitsOf writtenLine putLine writtenLines textOf writtenText until headerBytes entriesFrom full? skip copiesWrong? headerWrong? linesOf judgeLines judgeText
     allDigits? isPos? valueFrom firstTold
 examples = (six, (three, (three, (three, (three, (six, (six, (six, (six, (six, (six, (six, (six, (six, tt))))))))))))))

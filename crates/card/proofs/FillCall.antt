@@ -21,6 +21,7 @@ use denote.Ref.{now}
 use denote.Signature.{plain, mutSliceOf, shrSliceOf}
 use denote.Slice.{sliceTy}
 use denote.Triple.Clauses.{Clauses, Ended}
+use Rattle.bases.specs.Letter.{basesOf}
 use Rattle.bases.specs.Pick.{pick}
 use Rattle.bases.specs.Put.{put}
 use Rattle.clusters.proofs.PlanSteps.{word, text}
@@ -86,16 +87,16 @@ module _ (R : RattleType) (τ : Ty) (fill : Name) where
 module _ (R : RattleType) (items : List ℕ → List ℕ → List ℕ → List (R .Denot)) {M : Type 1} (𝓤 : URA M) where
   abbrev pub Fills : (List ℕ → List ℕ → List ℕ → ℕ → Type 0) → Clauses 𝓤 (Lends R)
   Fills Asks κs a =
-      let zs : List (R .Denot) = items (now (a .0)) (now (a .1 .0)) (now (a .1 .1 .0)) in
+      let zs : List (R .Denot) = items (basesOf (now (a .0))) (now (a .1 .0)) (now (a .1 .1 .0)) in
       record {
         ghost = Unit {0};
-        requires = λ g. fact 𝓤 (Asks (now (a .0)) (now (a .1 .0)) (now (a .1 .1 .0)) (length (now (a .1 .1 .1 .0))));
+        requires = λ g. fact 𝓤 (Asks (basesOf (now (a .0))) (now (a .1 .0)) (now (a .1 .1 .0)) (length (now (a .1 .1 .1 .0))));
         ensures = λ g r e. fact 𝓤 ((r ≡ length zs) × (now (e .1 .1 .1 .0) ≡ put (now (a .1 .1 .1 .0)) 0 zs));
       }
 
   abbrev pub Filled : Clauses 𝓤 (Call R)
   Filled κs a =
-      let zs : List (R .Denot) = items (now (a .0)) (now (a .1 .1 .0)) (now (a .1 .1 .1 .0)) in
+      let zs : List (R .Denot) = items (basesOf (now (a .0))) (now (a .1 .1 .0)) (now (a .1 .1 .1 .0)) in
       let ys : List (R .Denot) = now (a .1 .1 .1 .1 .0) in
       let no = planRefusal (now (a .0)) (now (a .1 .0)) (now (a .1 .1 .0)) (now (a .1 .1 .1 .0)) (length ys) in
       record {

@@ -41,6 +41,7 @@ use denote.Triple.Entry.{onEntry}
 use denote.Triple.Spec.{Meets, tripleOf}
 use denote.Triple.Statement.{Contract, Triple}
 use denote.Triple.Walked.{says, Stays, walkOf, Walks, ends-at, walked, walk-meets}
+use Rattle.bases.specs.Letter.{basesOf}
 use Rattle.bases.specs.Pick.{pick}
 use Rattle.bases.specs.Put.{put}
 use Rattle.clusters.proofs.ByHand.{Met, tells-values, lastIn, lastVals, last-out, lastLft, lastShare, token-out, token-in}
@@ -69,7 +70,7 @@ Give 𝓤 H A mem run = tripleOf 𝓤 H A give.signature (give.spec 𝓤 H A mem
 
 module _ (R : RattleType) (τ : Ty) (fill : Name) (items : List ℕ → List ℕ → List ℕ → List (R .Denot)) (Asks : List ℕ → List ℕ → List ℕ → ℕ → Type 0)
     (asked : (reference name first second : List ℕ) (room : ℕ) → planRefusal reference name first second room .number ≡ 0
-    → Asks reference first second room × (length (items reference first second) ≤ leastRoom))
+    → Asks (basesOf reference) first second room × (length (items (basesOf reference) first second) ≤ leastRoom))
     {M : Type 1} (𝓤 : URA M) (H : Heap 𝓤) (A : Atoms 𝓤) (W : Given 𝓤 H A) (mem : Memory → SProp 𝓤) (run : Routine → Fun 𝓤) where
   abbrev C : Clauses 𝓤 (Call R)
   C = Filled R items 𝓤
@@ -84,7 +85,7 @@ module _ (R : RattleType) (τ : Ty) (fill : Name) (items : List ℕ → List ℕ
     ys = x .now
 
     abbrev P : List (R .Denot)
-    P = items (xs .0 .now) (xs .1 .1 .0 .now) (xs .1 .1 .1 .0 .now)
+    P = items (basesOf (xs .0 .now)) (xs .1 .1 .0 .now) (xs .1 .1 .1 .0 .now)
 
     abbrev small : Bool
     small = ltb (length ys) leastRoom

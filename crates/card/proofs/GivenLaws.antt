@@ -9,6 +9,7 @@ use mathlib.Core.Path.{_≡_}
 use Prim.Native.Nat.{ℕ}
 use lib.Dec.{T}
 use borrow.Author.Tests.{eq-eqb}
+use Rattle.bases.specs.Letter.{basesOf}
 use Rattle.bases.proofs.FirstLaws.{first-all}
 use Rattle.clusters.specs.declared.plan.Cluster.{Cluster}
 use Rattle.vcf.proofs.GivenLaws.{given?, judge-given}
@@ -24,21 +25,21 @@ Given r = T (given? (r .number) (r .place))
 
 module _ (reference name first : List ℕ) where
   pub list-given : (small : Bool) → Given (firstRefusal (listChecks reference name first small))
-  list-given small = first-all noRefusal Given tt (listChecks reference name first small) (tt, (tt, (judge-given reference name first, tt)))
+  list-given small = first-all noRefusal Given tt (listChecks reference name first small) (tt, (tt, (judge-given (basesOf reference) name first, tt)))
 
   pub allele-given : (i k : ℕ) → Given (alleleRefusal reference name first i k)
-  allele-given i k = first-all noRefusal Given tt (alleleChecks reference name first i k) (tt, (judge-given reference name first, (tt, tt)))
+  allele-given i k = first-all noRefusal Given tt (alleleChecks reference name first i k) (tt, (judge-given (basesOf reference) name first, (tt, tt)))
 
   module _ (second : List ℕ) where
     pub lists-given : (small : Bool) → Given (firstRefusal (listsChecks reference name first second small))
     lists-given small =
         first-all noRefusal Given tt (listsChecks reference name first second small)
-        (tt, (tt, (judge-given reference name first, (judge-given reference name second, tt))))
+        (tt, (tt, (judge-given (basesOf reference) name first, (judge-given (basesOf reference) name second, tt))))
 
     pub mark-given : (plan : List Cluster) (k room : ℕ) → Given (markRefusal reference name first second plan k room)
     mark-given plan k room =
         first-all noRefusal Given tt (markChecks reference name first second plan k room)
-        (tt, (tt, (judge-given reference name first, (judge-given reference name second, (tt, (tt, tt))))))
+        (tt, (tt, (judge-given (basesOf reference) name first, (judge-given (basesOf reference) name second, (tt, (tt, tt))))))
 
 pub answered-place : (r : Refusal) (value : ℕ) → r .number ≡ 0 → answerOf r value .place ≡ 0
 answered-place r value z = rw (eq-eqb (r .number) 0 z)

@@ -13,6 +13,7 @@ use Prim.Native.Nat.{ℕ}
 use native.Mathlib.Nat.{suc-ne-zero}
 use borrow.Author.Tests.{eq-eqb, ne-eqb, eqb-true, not-false}
 use lib.Dec.{T, T-not, eqb}
+use Rattle.bases.specs.Letter.{basesOf}
 use Rattle.bases.specs.First.{firstTold}
 use Rattle.bases.specs.Reference.{isReference?}
 use Rattle.bases.proofs.TestLaws.{of-true}
@@ -25,14 +26,14 @@ use Rattle.card.proofs.RefusalLaws.{Numbered, none-holds, first-keeps, 
 pub record Read (reference name first : List ℕ) (small : Bool) : Type 0 where
   pub right : isReference? reference ≡ true
   pub roomy : small ≡ false
-  pub accepted : judgeText reference name first .number ≡ 0
+  pub accepted : judgeText (basesOf reference) name first .number ≡ 0
 
 module _ (reference name : List ℕ) where
   pub check-numbered : (j : ℕ) (text : List ℕ) → T (listCheck j reference name text .holds) → listCheck j reference name text .told .number ≢ 0
-  check-numbered j text h e = T-not (eqb (judgeText reference name text .number) 0) h (of-true (eq-eqb _ _ e))
+  check-numbered j text h e = T-not (eqb (judgeText (basesOf reference) name text .number) 0) h (of-true (eq-eqb _ _ e))
 
-  pub accepted-of : (j : ℕ) (text : List ℕ) → listCheck j reference name text .holds ≡ false → judgeText reference name text .number ≡ 0
-  accepted-of j text h = eqb-true (judgeText reference name text .number) 0 (not-false (eqb (judgeText reference name text .number) 0) h)
+  pub accepted-of : (j : ℕ) (text : List ℕ) → listCheck j reference name text .holds ≡ false → judgeText (basesOf reference) name text .number ≡ 0
+  accepted-of j text h = eqb-true (judgeText (basesOf reference) name text .number) 0 (not-false (eqb (judgeText (basesOf reference) name text .number) 0) h)
 
   module _ (first : List ℕ) (small : Bool) where
     pub list-numbered : Numbered (listChecks reference name first small)
@@ -46,7 +47,7 @@ module _ (reference name : List ℕ) where
     unfolding firstTold
     list-small e s = rw (e, s)
 
-    pub list-fault : isReference? reference ≡ true → small ≡ false → (f : Fault) → f ≡ judgeText reference name first → f .number ≢ 0
+    pub list-fault : isReference? reference ≡ true → small ≡ false → (f : Fault) → f ≡ judgeText (basesOf reference) name first → f .number ≢ 0
         → firstRefusal (listChecks reference name first small) ≡ refusal (f .number) 1 (f .line) (f .place)
     unfolding firstTold
     list-fault e s f g n = rw (e, s, ← g, ne-eqb (f .number) 0 n)
@@ -72,18 +73,18 @@ module _ (reference name : List ℕ) where
           → firstRefusal (listsChecks reference name first second small) ≡ firstRefusal (listCheck 2 reference name second ∷ [])
       behind e = first-goes (listChecks reference name first small) (listCheck 2 reference name second ∷ []) list-numbered e
 
-      pub lists-fault : firstRefusal (listChecks reference name first small) .number ≡ 0 → (f : Fault) → f ≡ judgeText reference name second → f .number ≢ 0
+      pub lists-fault : firstRefusal (listChecks reference name first small) .number ≡ 0 → (f : Fault) → f ≡ judgeText (basesOf reference) name second → f .number ≢ 0
           → firstRefusal (listsChecks reference name first second small) ≡ refusal (f .number) 2 (f .line) (f .place)
       unfolding firstTold
       lists-fault e f g n = behind e ∙ rw (← g, ne-eqb (f .number) 0 n)
 
-      pub lists-clear : firstRefusal (listChecks reference name first small) .number ≡ 0 → judgeText reference name second .number ≡ 0
+      pub lists-clear : firstRefusal (listChecks reference name first small) .number ≡ 0 → judgeText (basesOf reference) name second .number ≡ 0
           → firstRefusal (listsChecks reference name first second small) ≡ noRefusal
       unfolding firstTold
       lists-clear e g = behind e ∙ rw (eq-eqb _ _ g)
 
       pub lists-read : firstRefusal (listsChecks reference name first second small) .number ≡ 0
-          → Read reference name first small × (judgeText reference name second .number ≡ 0)
+          → Read reference name first small × (judgeText (basesOf reference) name second .number ≡ 0)
       lists-read e =
           let none = none-holds (listsChecks reference name first second small) lists-numbered e in (
             record { right = not-false (isReference? reference) (none .0); roomy = none .1 .0; accepted = accepted-of 1 first (none .1 .1 .0) },

@@ -14,6 +14,7 @@ use native.Mathlib.Nat.{suc-ne-zero}
 use borrow.Author.Tests.{eq-eqb, ne-eqb, ltb-true, ltb-false, not-false, lt-ltb}
 use lib.Dec.{eqb, ltb}
 use lib.ListN.{length}
+use Rattle.bases.specs.Letter.{basesOf}
 use Rattle.bases.specs.First.{firstTold}
 use Rattle.bases.specs.Pick.{pick}
 use Rattle.bases.specs.Put.{put}
@@ -51,10 +52,10 @@ module _ (reference name first second : List ℕ) (plan : List Cluster) (k room 
     pub right : isReference? reference ≡ true
     pub enough : leastRoom ≤ length plan
     pub roomy : leastRoom ≤ room
-    pub accepted1 : judgeText reference name first .number ≡ 0
-    pub accepted2 : judgeText reference name second .number ≡ 0
-    pub planned : isPlan? (planOf reference first second) plan ≡ true
-    pub there : k < length (clustersOf reference first second)
+    pub accepted1 : judgeText (basesOf reference) name first .number ≡ 0
+    pub accepted2 : judgeText (basesOf reference) name second .number ≡ 0
+    pub planned : isPlan? (planOf (basesOf reference) first second) plan ≡ true
+    pub there : k < length (clustersOf (basesOf reference) first second)
 
   pub mark-asked : markRefusal reference name first second plan k room .number ≡ 0 → Asked
   mark-asked e =
@@ -66,8 +67,8 @@ module _ (reference name first second : List ℕ) (plan : List Cluster) (k room 
         roomy = ltb-false room leastRoom (both .1);
         accepted1 = accepted-of reference name 1 first (none .1 .1 .0);
         accepted2 = accepted-of reference name 2 second (none .1 .1 .1 .0);
-        planned = not-false (isPlan? (planOf reference first second) plan) (none .1 .1 .1 .1 .0);
-        there = ltb-true k (length (clustersOf reference first second)) (not-false (isCluster? (clustersOf reference first second) k) (none .1 .1 .1 .1 .1 .0));
+        planned = not-false (isPlan? (planOf (basesOf reference) first second) plan) (none .1 .1 .1 .1 .0);
+        there = ltb-true k (length (clustersOf (basesOf reference) first second)) (not-false (isCluster? (clustersOf (basesOf reference) first second) k) (none .1 .1 .1 .1 .1 .0));
       }
 
 module _ (reference name first second : List ℕ) (plan : List Cluster) (k : ℕ) (marks : List ℕ) where
@@ -76,9 +77,9 @@ module _ (reference name first second : List ℕ) (plan : List Cluster) (k : ℕ
 
   pub mark-written : markRefusal reference name first second plan k (length marks) .number ≡ 0
       → markAfter reference name first second plan k marks
-      ≡ put marks (firstEntry (clustersOf reference first second) k) (marksOf reference (clusterAt (clustersOf reference first second) k))
+      ≡ put marks (firstEntry (clustersOf (basesOf reference) first second) k) (marksOf (basesOf reference) (clusterAt (clustersOf (basesOf reference) first second) k))
   mark-written e =
-      let cs = clustersOf reference first second in
+      let cs = clustersOf (basesOf reference) first second in
       rw (eq-eqb (markRefusal reference name first second plan k (length marks) .number) 0 e, lt-ltb k (length cs) (mark-asked reference name first second plan k (length marks) e .there))
 
   -- The refusal of the lists.
@@ -87,8 +88,8 @@ module _ (reference name first second : List ℕ) (plan : List Cluster) (k : ℕ
 
   abbrev asks : List Check
   asks =
-      check (not (isPlan? (planOf reference first second) plan)) (refusal 17 0 0 0)
-      ∷ check (not (isCluster? (clustersOf reference first second) k)) (refusal 16 0 0 0)
+      check (not (isPlan? (planOf (basesOf reference) first second) plan)) (refusal 17 0 0 0)
+      ∷ check (not (isCluster? (clustersOf (basesOf reference) first second) k)) (refusal 16 0 0 0)
       ∷ []
 
   pub mark-lists : firstRefusal (listsChecks reference name first second (smallRoom? (length plan) (length marks))) .number ≢ 0
@@ -100,23 +101,25 @@ module _ (reference name first second : List ℕ) (plan : List Cluster) (k : ℕ
       (rw (e, f), rw (e, f))
 
   pub mark-read : firstRefusal (listsChecks reference name first second (smallRoom? (length plan) (length marks))) .number ≡ 0
-      → (marked reference name first second plan k (length marks) ≡ answerAsked (isPlan? (planOf reference first second) plan) (askedFor reference (clustersOf reference first second) k))
-      × (markAfter reference name first second plan k marks ≡ pick (isPlan? (planOf reference first second) plan) (marksAfter reference (clustersOf reference first second) k marks) marks)
+      → (marked reference name first second plan k (length marks) ≡ answerAsked (isPlan? (planOf (basesOf reference) first second) plan)
+      (askedFor (basesOf reference) (clustersOf (basesOf reference) first second) k))
+      × (markAfter reference name first second plan k marks ≡ pick (isPlan? (planOf (basesOf reference) first second) plan)
+      (marksAfter (basesOf reference) (clustersOf (basesOf reference) first second) k marks) marks)
   unfolding firstTold
   mark-read z =
       let e : markRefusal reference name first second plan k (length marks) ≡ firstRefusal asks =
       first-goes (listsChecks reference name first second (smallRoom? (length plan) (length marks))) asks (lists-numbered reference name first (smallRoom? (length plan) (length marks)) second) z in
-      rw e (go (isPlan? (planOf reference first second) plan) (isCluster? (clustersOf reference first second) k))
+      rw e (go (isPlan? (planOf (basesOf reference) first second) plan) (isCluster? (clustersOf (basesOf reference) first second) k))
     where
       c : List Variant
-      c = clusterAt (clustersOf reference first second) k
+      c = clusterAt (clustersOf (basesOf reference) first second) k
 
       go : (s t : Bool)
-          → (answerOf (pick (not s) (refusal 17 0 0 0) (pick (not t) (refusal 16 0 0 0) noRefusal)) (markValue reference c)
-          ≡ answerAsked s (pick t (markedOf reference c) notFound))
+          → (answerOf (pick (not s) (refusal 17 0 0 0) (pick (not t) (refusal 16 0 0 0) noRefusal)) (markValue (basesOf reference) c)
+          ≡ answerAsked s (pick t (markedOf (basesOf reference) c) notFound))
           × (pick (eqb (pick (not s) (refusal 17 0 0 0) (pick (not t) (refusal 16 0 0 0) noRefusal) .number) 0)
-          (pick t (put marks (firstEntry (clustersOf reference first second) k) (marksOf reference c)) marks) marks
-          ≡ pick s (pick t (put marks (firstEntry (clustersOf reference first second) k) (marksOf reference c)) marks) marks)
+          (pick t (put marks (firstEntry (clustersOf (basesOf reference) first second) k) (marksOf (basesOf reference) c)) marks) marks
+          ≡ pick s (pick t (put marks (firstEntry (clustersOf (basesOf reference) first second) k) (marksOf (basesOf reference) c)) marks) marks)
       go true true = (refl, refl)
       go true false = (refl, refl)
       go false t = (refl, refl)

@@ -9,6 +9,7 @@ use Prim.Native.Nat.{ℕ}
 use borrow.Author.Tests.{eq-eqb, ne-eqb}
 use lib.Dec.{ltb}
 use lib.ListN.{length}
+use Rattle.bases.specs.Letter.{basesOf}
 use Rattle.bases.specs.Put.{put}
 use Rattle.written.specs.Written.{writtenText}
 use Rattle.card.specs.declared.refusal.Refusal.{Refusal}
@@ -34,7 +35,8 @@ module _ (reference name text out : List ℕ) where
       (rw e, rw e)
 
   pub normal-given : normalRefusal reference name text (length out) .number ≡ 0
-      → (written reference name text (length out) ≡ answer 0 0 0 0 (length (writtenText reference text))) × (normalAfter reference name text out ≡ put out 0 (writtenText reference text))
+      → (written reference name text (length out) ≡ answer 0 0 0 0 (length (writtenText (basesOf reference) text))) ×
+      (normalAfter reference name text out ≡ put out 0 (writtenText (basesOf reference) text))
   normal-given z =
       let e = eq-eqb (normalRefusal reference name text (length out) .number) 0 z in
       (rw e, rw e)

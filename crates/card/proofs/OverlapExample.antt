@@ -4,7 +4,7 @@
 use mathlib.Core.List.{List, [], _∷_}
 use Prim.Native.Nat.{ℕ}
 use Rattle.bases.specs.First.{firstTold}
-use Rattle.bases.specs.Letter.{among?, letterOf, allLetters?}
+use Rattle.bases.specs.Letter.{letterAmong, letterOf, allLetters?}
 use Rattle.bases.specs.Period.{anyPeriod?}
 use Rattle.bases.specs.Same.{agree?}
 use Rattle.marks.specs.Marks.{totalScore}
@@ -46,7 +46,7 @@ overlap =
     ∷ []
 
 pub overlap-holds : All Holds overlap
-unfolding among? letterOf allLetters? anyPeriod? agree? weave merged rest plan recordsFrom totalScore chain? donorFrom edits score every? allowed? bestOf join first? better bestOver search run all?
+unfolding letterAmong letterOf allLetters? anyPeriod? agree? weave merged rest plan recordsFrom totalScore chain? donorFrom edits score every? allowed? bestOf join first? better bestOver search run all?
     shortest normalEntry digitsOf writtenLine putLine writtenLines textOf writtenText until headerBytes entriesFrom full? skip copiesWrong? headerWrong? linesOf judgeLines judgeText
     allDigits? isPos? valueFrom firstTold
 overlap-holds = (six, (three, (six, tt)))

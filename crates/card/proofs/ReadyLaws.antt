@@ -7,8 +7,9 @@ use mathlib.Core.Path.{_≡_}
 use Prim.Native.Nat.{ℕ, _≤_}
 use native.Mathlib.Omega.{arith}
 use lib.ListN.{length}
+use Rattle.bases.specs.Letter.{basesOf}
 use Rattle.bases.specs.Reference.{longestReference}
-use Rattle.bases.proofs.ReferenceLaws.{reference-iff}
+use Rattle.bases.proofs.ReferenceLaws.{reference-bases}
 use Rattle.bases.proofs.TestLaws.{of-true}
 use Rattle.clusters.specs.Heads.{Ready, startHeads}
 use Rattle.clusters.specs.Item.{variant}
@@ -30,17 +31,23 @@ pub record Answerable (reference first second : List ℕ) : Type 0 where
   pub clusters : length (planOf reference first second) ≤ leastRoom
   pub score : totalScore reference (clustersOf reference first second) ≤ leastRoom
 
-pub lists-answerable : (reference name first second : List ℕ) (small : Bool) → firstRefusal (listsChecks reference name first second small) .number ≡ 0 → Answerable reference first second
+pub lists-answerable : (reference name first second : List ℕ) (small : Bool) → firstRefusal (listsChecks reference name first second small) .number ≡ 0 → Answerable (basesOf reference) first second
     × (small ≡ false)
 lists-answerable reference name first second small z =
     let r = lists-read reference name first small second z in
-    let most = entries-most reference name first second (r .0 .accepted) (r .1) in (
+    let most = entries-most (basesOf reference) name first second (r .0 .accepted) (r .1) in (
       record {
-        ready = accepted-ready reference name first second (r .0 .accepted) (r .1);
-        short = reference-iff reference .0 (of-true (r .0 .right)) .1;
-        entries = omega (arith, map-length (variant reference first second) (mergedItems first second), most);
-        clusters = plan-few reference name first second (r .0 .accepted) (r .1);
-        score = omega (arith, total-score reference (clustersOf reference first second) (clusters-plain reference first second), whole-long reference name first second (r .0 .accepted) (r .1), most);
+        ready = accepted-ready (basesOf reference) name first second (r .0 .accepted) (r .1);
+        short = reference-bases reference (of-true (r .0 .right)) .short;
+        entries = omega (arith, map-length (variant (basesOf reference) first second) (mergedItems first second), most);
+        clusters = plan-few (basesOf reference) name first second (r .0 .accepted) (r .1);
+        score = omega (
+          arith,
+          total-score (basesOf reference) (clustersOf (basesOf reference) first second) (clusters-plain (basesOf reference) first second),
+          whole-long
+              (basesOf reference) name first second (r .0 .accepted) (r .1),
+          most,
+        );
       },
       r .0 .roomy,
     )

@@ -10,7 +10,6 @@ use Prim.Native.Nat.{ℕ, zero, suc, _≤_}
 use native.Mathlib.Omega.{arith}
 use borrow.Author.Tests.{leb-true}
 use lib.ListN.{length, length-append}
-use Rattle.bases.specs.Letter.{basesOf}
 use Rattle.bases.specs.Pick.{pick}
 use Rattle.marks.specs.Marks.{decided?, scoreOf, markedOf, notFound, clusterAt, isCluster?, askedFor, totalScore}
 use Rattle.donors.specs.Apart.{All}
@@ -32,15 +31,15 @@ module _ (reference : List ℕ) where
   score-few : (c : List Variant) → All Plain c → scoreOf reference c ≤ length c
   score-few c p = go (decided? c)
     where
-      go : (t : Bool) → pick t (score cardScoring c (cardBest (basesOf reference) c)) 0 ≤ length c
-      go true = score-least c p (cardBest (basesOf reference) c)
+      go : (t : Bool) → pick t (score cardScoring c (cardBest reference c)) 0 ≤ length c
+      go true = score-least c p (cardBest reference c)
       go false = omega arith
 
   pub cluster-score : (c : List Variant) → All Plain c → scoreOf reference c ≤ most
   cluster-score c p = go (decided? c) refl
     where
-      go : (t : Bool) → decided? c ≡ t → pick t (score cardScoring c (cardBest (basesOf reference) c)) 0 ≤ most
-      go true e = omega (arith, score-least c p (cardBest (basesOf reference) c), leb-true (length c) most e)
+      go : (t : Bool) → decided? c ≡ t → pick t (score cardScoring c (cardBest reference c)) 0 ≤ most
+      go true e = omega (arith, score-least c p (cardBest reference c), leb-true (length c) most e)
       go false e = omega arith
 
   pub asked-score : (cs : List (List Variant)) → All (All Plain) cs → (k : ℕ) → askedFor reference cs k .score ≤ most

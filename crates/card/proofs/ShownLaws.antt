@@ -15,6 +15,7 @@ use native.Mathlib.Nat.{suc-ne-zero}
 use borrow.Author.Tests.{eq-eqb, ne-eqb, eqb-true, leb-false, ltb-false, not-false, le-leb, lt-leb, lt-ltb, le-ltb}
 use lib.Dec.{T, T-not, eqb, leb, ltb}
 use lib.ListN.{length}
+use Rattle.bases.specs.Letter.{basesOf}
 use Rattle.bases.specs.First.{firstTold}
 use Rattle.bases.specs.Reference.{isReference?}
 use Rattle.bases.proofs.TestLaws.{of-true, neither}
@@ -40,7 +41,7 @@ module _ (reference name text : List ℕ) (i k : ℕ) where
   pub checks-numbered : Numbered alleleChecks
   checks-numbered = (
     λ h. suc-ne-zero 0,
-    (λ h e. T-not (eqb (judgeText reference name text .number) 0) h (of-true (eq-eqb _ _ e)), (λ h. suc-ne-zero 17, tt)),
+    (λ h e. T-not (eqb (judgeText (basesOf reference) name text .number) 0) h (of-true (eq-eqb _ _ e)), (λ h. suc-ne-zero 17, tt)),
   )
 
   pub shown-refused : (r : Refusal) → alleleRefusal reference name text i k ≡ r → r .number ≢ 0 → shown reference name text i k ≡ refusedShown r
@@ -56,11 +57,11 @@ module _ (reference name text : List ℕ) (i k : ℕ) where
   shown-no-reference e = shown-refused (refusal 1 0 0 0) (rw e) (suc-ne-zero 0)
 
   module _ (right : isReference? reference ≡ true) where
-    pub shown-fault : (f : Fault) → f ≡ judgeText reference name text → f .number ≢ 0 → shown reference name text i k ≡ refusedShown (refusal (f .number) 1 (f .line) (f .place))
+    pub shown-fault : (f : Fault) → f ≡ judgeText (basesOf reference) name text → f .number ≢ 0 → shown reference name text i k ≡ refusedShown (refusal (f .number) 1 (f .line) (f .place))
     unfolding firstTold
     shown-fault f e n = shown-refused (refusal (f .number) 1 (f .line) (f .place)) (rw (right, ← e, ne-eqb (f .number) 0 n)) n
 
-    module _ (accepted : judgeText reference name text .number ≡ 0) where
+    module _ (accepted : judgeText (basesOf reference) name text .number ≡ 0) where
       refusal-allele : noAllele? text i k ≡ true → alleleRefusal reference name text i k ≡ refusal 18 0 0 0
       unfolding firstTold
       refusal-allele h = rw (right, eq-eqb _ _ accepted, h)
@@ -90,22 +91,22 @@ module _ (reference name text : List ℕ) (i k : ℕ) where
             shown-there (ap (λ (r : Refusal). r .number) (refusal-none (allele-test ∙ le-ltb _ k h))) ∙ rw is-entry
 
         pub entry-pos : 1 ≤ e .pos .0
-        entry-pos = rw (read, found) (accepted-line reference name text accepted i (rw found at there) .pos)
+        entry-pos = rw (read, found) (accepted-line (basesOf reference) name text accepted i (rw found at there) .pos)
 
 -- Allele k of entry i is shown: what is so of the reference, the list and the entry.
 pub record Answered (reference name text : List ℕ) (i k : ℕ) : Type 0 where
   pub right : T (isReference? reference)
-  pub accepted : judgeText reference name text .number ≡ 0
+  pub accepted : judgeText (basesOf reference) name text .number ≡ 0
   pub there : recordAt text i < length text
   pub entry : entryNumber text i ≡ entryOf (lineAt text (recordAt text i)) (recordAt text i)
   pub shows : shown reference name text i k ≡ shownOf (entryOf (lineAt text (recordAt text i)) (recordAt text i)) k
-  pub line : RecordLine reference (lineAt text (recordAt text i))
+  pub line : RecordLine (basesOf reference) (lineAt text (recordAt text i))
   pub allele : k ≤ altCount (field 4 (lineAt text (recordAt text i)))
 
 pub answered : (reference name text : List ℕ) (i k : ℕ) → alleleRefusal reference name text i k .number ≡ 0 → Answered reference name text i k
 answered reference name text i k e =
     let none = none-holds (alleleChecks reference name text i k) (checks-numbered reference name text i k) e in
-    let accepted = eqb-true (judgeText reference name text .number) 0 (not-false (eqb (judgeText reference name text .number) 0) (none .1 .0)) in
+    let accepted = eqb-true (judgeText (basesOf reference) name text .number) 0 (not-false (eqb (judgeText (basesOf reference) name text .number) 0) (none .1 .0)) in
     let some = leb-false (length (entriesOf text)) i (neither (leb (length (entriesOf text)) i) (ltb (entryNumber text i .alts) k) (none .1 .1 .0) .0) in
     let there = entries-iff text i .0 some in
     let entry = entry-number text i noEntry there in
@@ -116,6 +117,6 @@ answered reference name text i k e =
       there = there;
       entry = entry;
       shows = shown-there reference name text i k e ∙ rw entry;
-      line = accepted-line reference name text accepted i there;
+      line = accepted-line (basesOf reference) name text accepted i there;
       allele = rw entry at few;
     }

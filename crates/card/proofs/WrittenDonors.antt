@@ -12,13 +12,13 @@ use Prim.Native.Nat.{ℕ, zero, suc, _+_, _-_, _≤_, _<_}
 use native.Mathlib.Omega.{arith}
 use borrow.Author.Tests.{eq-eqb, eqb-false}
 use lib.Dec.{T, eqb, ltb}
-use lib.ListN.{length, getD, take, drop, length-drop}
-use lib.Seq.{length-take-le}
+use lib.ListN.{length, getD, take, drop}
 use Rattle.bases.specs.Letter.{basesOf}
 use Rattle.bases.specs.Pick.{pick}
 use Rattle.bases.specs.Place.{placeOf}
-use Rattle.bases.specs.Reference.{isReference?}
-use Rattle.bases.proofs.LetterLaws.{bases-length, bases-part}
+use Rattle.bases.specs.Reference.{isReference?, Bases}
+use Rattle.bases.proofs.ReferenceLaws.{reference-bases}
+use Rattle.bases.proofs.StretchLaws.{stretch-length}
 use Rattle.bases.proofs.TestLaws.{neither}
 use Rattle.clusters.specs.Item.{alleleOf}
 use Rattle.clusters.proofs.SoundLaws.{copies-named, entries-all}
@@ -36,7 +36,7 @@ use Rattle.written.proofs.WrittenEntries.{written-entries}
 use Rattle.written.proofs.WrittenList.{written-accepted, written-twice}
 use Rattle.vcf.specs.declared.entry.Entry.{Entry}
 use Rattle.fields.specs.Allele.{altCount, twoAlts?}
-use Rattle.vcf.specs.Entry.{part, lineAt, bytesOf, entryOf, recordsAt, entriesOf}
+use Rattle.vcf.specs.Entry.{lineAt, bytesOf, entryOf, recordsAt, entriesOf}
 use Rattle.fields.specs.Field.{field}
 use Rattle.fields.specs.Genotype.{formatWrong?, copiesWrong?}
 use Rattle.vcf.specs.List.{judgeText}
@@ -62,10 +62,10 @@ alone-is R e =
 module _ (reference text : List ℕ) (e : Entry) where
   -- The reference with the entry's span replaced by its allele k.
   abbrev replaced : ℕ → List ℕ
-  replaced k = take (start e) (basesOf reference) ++ alleleOf reference text e k ++ drop (start e + e .reference .len) (basesOf reference)
+  replaced k = take (start e) reference ++ alleleOf reference text e k ++ drop (start e + e .reference .len) reference
 
-  one-edit : (k : ℕ) → donor (basesOf reference) (record { start = start e; len = e .reference .len; new = alleleOf reference text e k } ∷ []) ≡ replaced k
-  one-edit k = alone-is (basesOf reference) (record { start = start e; len = e .reference .len; new = alleleOf reference text e k })
+  one-edit : (k : ℕ) → donor reference (record { start = start e; len = e .reference .len; new = alleleOf reference text e k } ∷ []) ≡ replaced k
+  one-edit k = alone-is reference (record { start = start e; len = e .reference .len; new = alleleOf reference text e k })
 
   alone-plus : (side : Bool) (h : Copy) → donorAlone reference text side e plus h ≡ replaced (numberOf e h)
   unfolding edits
@@ -81,7 +81,7 @@ module _ (reference text : List ℕ) (e : Entry) where
   alone-minus false copy0 = one-edit (e .copy1)
   alone-minus false copy1 = one-edit (e .copy0)
 
-  alone-out : (side : Bool) (h : Copy) → donorAlone reference text side e out h ≡ basesOf reference
+  alone-out : (side : Bool) (h : Copy) → donorAlone reference text side e out h ≡ reference
   unfolding edits donorFrom
   alone-out true h = refl
   alone-out false h = refl
@@ -132,14 +132,12 @@ entries-fit reference name t accepted = entries-all reference name t (Fit refere
 
 module _ (reference text : List ℕ) (e : Entry) (fit : Fit reference e) where
   ref-long : length (formOf reference text e .ref) ≡ e .reference .len
-  ref-long =
-      bases-length (bytesOf reference (part (start e) (e .reference .len)))
-      ∙ length-take-le (e .reference .len) (drop (start e) reference) (omega (arith, fit .within, length-drop (start e) reference))
+  ref-long = stretch-length reference (start e) (e .reference .len) (fit .within)
 
-  fit-on : OnReference (basesOf reference) (formOf reference text e)
+  fit-on : OnReference reference (formOf reference text e)
   fit-on = (
-    omega (arith, ref-long, bases-length reference, fit .within),
-    ap (λ (k : ℕ). take k (drop (start e) (basesOf reference))) ref-long ∙ sym (bases-part reference (start e) (e .reference .len)),
+    omega (arith, ref-long, fit .within),
+    ap (λ (k : ℕ). take k (drop (start e) reference)) ref-long,
   )
 
   allele-at : (k : ℕ) → k ≤ e .alts → alleleOf reference text e k ≡ getD (alleles (formOf reference text e)) k []
@@ -164,7 +162,7 @@ module _ (reference t w : List ℕ) (e n : Entry) (fe : Fit reference e) (fn : F
   fit-donors k h =
       let f = formOf reference t e in
       let g = formOf reference w n in
-      let r = basesOf reference in
+      let r = reference in
       let all = donors-all r f g (fit-on reference t e fe) (fit-on reference w n fn) (same .form .donors) in
       let at = map-at (donorOn r f) (donorOn r g) (alleles f) (alleles g) all k (allele-there reference t e fe k h) in
       let a = allele-at reference t e fe k h in
@@ -185,8 +183,8 @@ module _ (reference t w : List ℕ) (e n : Entry) (fe : Fit reference e) (fn : F
   entry-donors side minus h = alone-minus reference t e side h ∙ copy-donors (other h) ∙ sym (alone-minus reference w n side h)
   entry-donors side out h = alone-out reference t e side h ∙ sym (alone-out reference w n side h)
 
-pub demand-2-written : (reference name : List ℕ) → T (isReference? reference) → (t : List ℕ) → judgeText reference name t .number ≡ 0 → WrittenSame reference name t (writtenText reference t)
-demand-2-written reference name ok t accepted =
+written-same : (reference name : List ℕ) → Bases reference → (t : List ℕ) → judgeText reference name t .number ≡ 0 → WrittenSame reference name t (writtenText reference t)
+written-same reference name ok t accepted =
     let w = writtenText reference t in
     let a = written-accepted reference name ok t accepted in
     let s = written-entries reference name ok t accepted in
@@ -198,3 +196,7 @@ demand-2-written reference name ok t accepted =
           (order-all reference t (Fit reference) [] (entriesOf t) tt (entries-fit reference name t accepted)) (entries-fit reference name w a) (s .each);
       again = written-twice reference name ok t accepted;
     }
+
+pub demand-2-written : (reference name : List ℕ) → T (isReference? reference) → (t : List ℕ) → judgeText (basesOf reference) name t .number ≡ 0
+    → WrittenSame (basesOf reference) name t (writtenText (basesOf reference) t)
+demand-2-written reference name ok t accepted = written-same (basesOf reference) name (reference-bases reference ok) t accepted

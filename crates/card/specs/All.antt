@@ -4,6 +4,7 @@ use mathlib.Core.List.{List}
 use Prim.Native.Nat.{ℕ}
 use lib.Dec.{eqb}
 use lib.ListN.{length, replicate}
+use Rattle.bases.specs.Letter.{basesOf}
 use Rattle.bases.specs.Pick.{pick}
 use Rattle.bases.specs.Put.{put}
 use Rattle.clusters.specs.declared.plan.Cluster.{Cluster}
@@ -31,7 +32,8 @@ module _ (reference name first second : List ℕ) (plan marks : ℕ) where
   allAnswered =
       let r = refusedAnswer allRefusal in
       pick (eqb (allRefusal .number) 0)
-      (allMarked r (length (planOf reference first second)) (totalScore reference (clustersOf reference first second)))
+      (allMarked r (length (planOf (basesOf reference) first second))
+      (totalScore (basesOf reference) (clustersOf (basesOf reference) first second)))
       (allMarked r 0 0)
 
 -- A plan of the least size, with nothing in it yet.
@@ -42,10 +44,10 @@ module _ (reference name first second : List ℕ) (plan : List Cluster) (marks :
   -- The lent records and the lent marks afterwards.
   abbrev pub allPlan : List Cluster
   allPlan = pick (eqb (allRefusal reference name first second (length plan) (length marks) .number) 0)
-      (put plan 0 (planOf reference first second)) plan
+      (put plan 0 (planOf (basesOf reference) first second)) plan
 
   abbrev pub allBytes : List ℕ
   allBytes =
       pick (eqb (allRefusal reference name first second (length plan) (length marks) .number) 0)
-      (put marks 0 (allMarks reference (clustersOf reference first second)))
+      (put marks 0 (allMarks (basesOf reference) (clustersOf (basesOf reference) first second)))
       marks

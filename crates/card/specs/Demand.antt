@@ -80,7 +80,7 @@ module _ (reference name first second : List ℕ) where
 
   -- Each cluster has been asked for, and answered.
   abbrev pub EachAnswered : List Call → Type 0
-  EachAnswered calls = (k : ℕ) → k < length (clustersOf reference first second) → Some (Answers k) calls
+  EachAnswered calls = (k : ℕ) → k < length (clustersOf (basesOf reference) first second) → Some (Answers k) calls
 
 module _ (reference first second : List ℕ) where
   abbrev clusters : List (List Variant)
@@ -107,7 +107,7 @@ module _ (reference first second : List ℕ) where
   -- What is so of the marks once each cluster has been answered: of every entry of both lists, and of the other bytes, which are as before.
   pub record EntriesMarked (before marks : List ℕ) : Type 0 where
     pub pair : List Choice
-    pub is-best : BestPair (basesOf reference) (mergedVariants reference first second) pair
+    pub is-best : BestPair reference (mergedVariants reference first second) pair
     pub entries : (e : ℕ) → e < length (mergedVariants reference first second) → EntryMarked pair marks e
     pub others : (e : ℕ) → length (mergedVariants reference first second) ≤ e → getD marks e 0 ≡ getD before e 0
     pub long : length marks ≡ length before

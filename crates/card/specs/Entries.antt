@@ -4,6 +4,7 @@ use mathlib.Core.List.{List}
 use Prim.Native.Nat.{ℕ}
 use lib.Dec.{eqb}
 use lib.ListN.{length}
+use Rattle.bases.specs.Letter.{basesOf}
 use Rattle.bases.specs.Pick.{pick}
 use Rattle.bases.specs.Put.{put}
 use Rattle.listed.specs.declared.listed.Listed.{Listed}
@@ -20,10 +21,11 @@ module _ (reference name first second : List ℕ) (room : ℕ) where
 
   -- The number of entries, or the refusal.
   abbrev pub listed : Answer
-  listed = answerOf listedRefusal (length (listedOf reference first second))
+  listed = answerOf listedRefusal (length (listedOf (basesOf reference) first second))
 
 -- The lent records afterwards: one an entry in merged order is written, from the first on.
 abbrev pub listedAfter : List ℕ → List ℕ → List ℕ → List ℕ → List Listed → List Listed
 listedAfter reference name first second entries =
-    pick (eqb (listedRefusal reference name first second (length entries) .number) 0) (put entries 0 (listedOf reference first second))
+    pick (eqb (listedRefusal reference name first second (length entries) .number) 0)
+    (put entries 0 (listedOf (basesOf reference) first second))
     entries

@@ -1,6 +1,7 @@
 pub mod All
 pub mod Allele
 pub mod Answer
+pub mod Case
 pub mod Count
 pub mod Demand
 pub mod Entries

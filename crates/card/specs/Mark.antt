@@ -5,6 +5,7 @@ use mathlib.Core.List.{List, [], _∷_, _++_}
 use Prim.Native.Nat.{ℕ}
 use lib.Dec.{eqb, ltb}
 use lib.ListN.{length}
+use Rattle.bases.specs.Letter.{basesOf}
 use Rattle.bases.specs.Pick.{pick}
 use Rattle.marks.specs.declared.mark.Marked.{Marked}
 use Rattle.clusters.specs.declared.plan.Cluster.{Cluster}
@@ -34,8 +35,8 @@ module _ (reference name first second : List ℕ) (plan : List Cluster) (k room 
   abbrev pub markChecks : List Check
   markChecks =
       listsChecks reference name first second (smallRoom? (length plan) room)
-      ++ (check (not (isPlan? (planOf reference first second) plan)) (refusal 17 0 0 0)
-      ∷ check (not (isCluster? (clustersOf reference first second) k)) (refusal 16 0 0 0)
+      ++ (check (not (isPlan? (planOf (basesOf reference) first second) plan)) (refusal 17 0 0 0)
+      ∷ check (not (isCluster? (clustersOf (basesOf reference) first second) k)) (refusal 16 0 0 0)
       ∷ [])
 
   -- Why cluster k is not marked, where so many marks are lent; four zeros where it is.
@@ -44,7 +45,7 @@ module _ (reference name first second : List ℕ) (plan : List Cluster) (k room 
 
   -- The score of cluster k, or that it is undecided, or the refusal.
   abbrev pub marked : Answer
-  marked = answerOf markRefusal (markValue reference (clusterAt (clustersOf reference first second) k))
+  marked = answerOf markRefusal (markValue (basesOf reference) (clusterAt (clustersOf (basesOf reference) first second) k))
 
 -- What is answered where both lists are read: is the plan given theirs, and what was told of the asked cluster.
 abbrev pub answerAsked : Bool → Marked → Answer
@@ -55,5 +56,5 @@ answerAsked same m =
 abbrev pub markAfter : List ℕ → List ℕ → List ℕ → List ℕ → List Cluster → ℕ → List ℕ → List ℕ
 markAfter reference name first second plan k marks =
     pick (eqb (markRefusal reference name first second plan k (length marks) .number) 0)
-    (marksAfter reference (clustersOf reference first second) k marks)
+    (marksAfter (basesOf reference) (clustersOf (basesOf reference) first second) k marks)
     marks

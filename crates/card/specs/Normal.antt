@@ -4,6 +4,7 @@ use mathlib.Core.List.{List}
 use Prim.Native.Nat.{ℕ}
 use lib.Dec.{eqb, ltb}
 use lib.ListN.{length}
+use Rattle.bases.specs.Letter.{basesOf}
 use Rattle.bases.specs.Pick.{pick}
 use Rattle.bases.specs.Put.{put}
 use Rattle.written.specs.Written.{writtenText}
@@ -19,9 +20,9 @@ module _ (reference name text : List ℕ) (room : ℕ) where
 
   -- The number of bytes written, or the refusal.
   abbrev pub written : Answer
-  written = answerOf normalRefusal (length (writtenText reference text))
+  written = answerOf normalRefusal (length (writtenText (basesOf reference) text))
 
 -- The lent room afterwards: the written text stands in it from its first byte on.
 abbrev pub normalAfter : List ℕ → List ℕ → List ℕ → List ℕ → List ℕ
 normalAfter reference name text out =
-    pick (eqb (normalRefusal reference name text (length out) .number) 0) (put out 0 (writtenText reference text)) out
+    pick (eqb (normalRefusal reference name text (length out) .number) 0) (put out 0 (writtenText (basesOf reference) text)) out

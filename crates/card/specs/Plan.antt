@@ -4,6 +4,7 @@ use mathlib.Core.List.{List}
 use Prim.Native.Nat.{ℕ}
 use lib.Dec.{eqb, ltb}
 use lib.ListN.{length}
+use Rattle.bases.specs.Letter.{basesOf}
 use Rattle.bases.specs.Pick.{pick}
 use Rattle.bases.specs.Put.{put}
 use Rattle.clusters.specs.declared.plan.Cluster.{Cluster}
@@ -20,9 +21,9 @@ module _ (reference name first second : List ℕ) (room : ℕ) where
 
   -- The number of clusters, or the refusal.
   abbrev pub planned : Answer
-  planned = answerOf planRefusal (length (planOf reference first second))
+  planned = answerOf planRefusal (length (planOf (basesOf reference) first second))
 
 -- The lent records afterwards: the plan is written into the first of them, one a cluster.
 abbrev pub planAfter : List ℕ → List ℕ → List ℕ → List ℕ → List Cluster → List Cluster
 planAfter reference name first second plan =
-    pick (eqb (planRefusal reference name first second (length plan) .number) 0) (put plan 0 (planOf reference first second)) plan
+    pick (eqb (planRefusal reference name first second (length plan) .number) 0) (put plan 0 (planOf (basesOf reference) first second)) plan

@@ -5,6 +5,7 @@ use mathlib.Core.Bool.{Bool, not}
 use mathlib.Core.List.{List, [], _∷_, _++_}
 use Prim.Native.Nat.{ℕ}
 use lib.Dec.{eqb}
+use Rattle.bases.specs.Letter.{basesOf}
 use Rattle.bases.specs.First.{Test, test, firstTold}
 use Rattle.bases.specs.Reference.{isReference?}
 use Rattle.vcf.specs.declared.list.Fault.{Fault}
@@ -41,7 +42,7 @@ faultIn j f = refusal (f .number) j (f .line) (f .place)
 -- The rows of list j, 3 to 9, 11 to 15 and 20 to 23: the first fault of its text.
 abbrev pub listCheck : ℕ → List ℕ → List ℕ → List ℕ → Check
 listCheck j reference name text =
-    check (not (eqb (judgeText reference name text .number) 0)) (faultIn j (judgeText reference name text))
+    check (not (eqb (judgeText (basesOf reference) name text .number) 0)) (faultIn j (judgeText (basesOf reference) name text))
 
 -- The least room that is lent for a plan, in clusters, for entries, and for marks, in bytes.
 abbrev pub leastRoom : ℕ

@@ -5,7 +5,6 @@ use mathlib.Core.Bool.{Bool}
 use mathlib.Core.List.{List, [], _∷_}
 use mathlib.Core.Path.{_≡_}
 use Prim.Native.Nat.{ℕ}
-use Rattle.bases.specs.Letter.{basesOf}
 use Rattle.clusters.specs.Item.{variantOf}
 use Rattle.donors.specs.Choice.{Choice, Copy, cardRules}
 use Rattle.donors.specs.Rules.{donorOf}
@@ -17,7 +16,7 @@ use Rattle.vcf.specs.List.{judgeText}
 
 -- The donor on a copy of a list that has one entry, with this choice; `side` says whether the list is list 1.
 abbrev pub donorAlone : List ℕ → List ℕ → Bool → Entry → Choice → Copy → List ℕ
-donorAlone reference text side e c h = donorOf cardRules (basesOf reference) side h (variantOf reference text side e ∷ []) (c ∷ [])
+donorAlone reference text side e c h = donorOf cardRules reference side h (variantOf reference text side e ∷ []) (c ∷ [])
 
 -- The entry e of the text t and the entry n of the text w, each alone, give the same donor on each copy: with `+`, with `-`, and left out.
 abbrev pub SameAlone : List ℕ → List ℕ → List ℕ → Entry → Entry → Type 0

@@ -2,6 +2,7 @@
 ghost use mathlib.Core.Path.{_≡_};
 ghost use Prim.Native.Nat.{_≤_};
 ghost use lib.ListN.{length};
+ghost use Rattle.bases.specs.Letter.{basesOf};
 ghost use Rattle.bases.specs.Pick.{pick};
 ghost use Rattle.bases.specs.Reference.{longestReference};
 ghost use Rattle.clusters.specs.Heads.{Ready, startHeads};
@@ -30,16 +31,17 @@ fn mark_planned(
     marks: &mut [u8],
 ) -> Answer
     requires { ⌜
-        Ready (now reference) (now first) (now second) (startHeads (now first) (now second))
-        × (length (now reference) ≤ longestReference)
+        Ready (basesOf (now reference)) (now first) (now second) (startHeads (now first) (now second))
+        × (length (basesOf (now reference)) ≤ longestReference)
         × (length (mergedItems (now first) (now second)) ≤ length (now marks))
         ⌝ }
     ensures { λ r. ⌜
         (r ≡ answerAsked same
-        (askedFor (now (reference .entry)) (clustersOf (now (reference .entry)) (now (first .entry)) (now (second .entry))) cluster))
+        (askedFor (basesOf (now (reference .entry)))
+        (clustersOf (basesOf (now (reference .entry))) (now (first .entry)) (now (second .entry))) cluster))
         × (now (marks .exit)
-        ≡ pick same (marksAfter (now (reference .entry))
-        (clustersOf (now (reference .entry)) (now (first .entry)) (now (second .entry))) cluster (now (marks .entry)))
+        ≡ pick same (marksAfter (basesOf (now (reference .entry)))
+        (clustersOf (basesOf (now (reference .entry))) (now (first .entry)) (now (second .entry))) cluster (now (marks .entry)))
         (now (marks .entry)))
         ⌝ }
 {

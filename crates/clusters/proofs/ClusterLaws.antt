@@ -10,7 +10,6 @@ use mathlib.Core.Path.{_≡_, refl, sym, ap, ap₂, _∙_}
 use Prim.Native.Nat.{ℕ, suc, _+_, _-_, _≤_, _<_}
 use native.Mathlib.Omega.{arith}
 use lib.ListN.{length}
-use Rattle.bases.specs.Letter.{basesOf}
 use Rattle.clusters.specs.declared.gap.Current.{Current}
 use Rattle.clusters.specs.declared.gap.Size.{Size}
 use Rattle.clusters.specs.declared.heads.Heads.{Heads}
@@ -71,7 +70,7 @@ module _ (reference first second : List ℕ) where
 
   pub walked-more : (c0 : Current) (k0 : Heads) (c : Current) (k : Heads) (n : ℕ) (i : Item) (z : Size) (c′ : Current) (k′ : Heads)
       → Walked reference first second c0 k0 c k n → done? first second k ≡ false → i ≡ nextItem first second k → z ≡ itemSize i
-      → cut? (basesOf reference) c (z .start) ≡ false → c′ ≡ more c z → k′ ≡ moved first second k (i .side)
+      → cut? reference c (z .start) ≡ false → c′ ≡ more c z → k′ ≡ moved first second k (i .side)
       → Walked reference first second c0 k0 c′ k′ (n + 1) × (length (itemsFrom first second k′) < length (itemsFrom first second k))
   walked-more c0 k0 c k n i z c′ k′ w d ei ez e ec ek =
       let next = nextItem first second k in

@@ -1,8 +1,8 @@
 -- Laws of the gap rule.
 --     cut-words                 the test in document 01's words
 --     cut-gap, gap-cut          a cut is where the gap has no period q with 1 ≤ q ≤ g: that holds both 'g = 0' and 'longer than g'
---     cut-test, cut-bases, cut-read, cut-behind
---                               the same as tests, of bases and of bytes, and by what is read; no cut where the item starts before b
+--     cut-test, cut-read, cut-behind
+--                               the same as tests, and by what is read; no cut where the item starts before b
 --     source-cut                where source document 000 allows a cut, so does this rule
 --     stop, stop-ends, currentOf, current-begin, current-more
 --                               what is kept of a cluster: the largest end and the four sums over its items, one item more at a time
@@ -21,9 +21,7 @@ use borrow.Author.Tests.{le-leb, lt-leb, lt-ltb, eq-eqb}
 use lib.Dec.{T, T-not, not-T, eqb, leb, ltb, leb→le, ltb→lt, eqb→eq}
 use lib.ListN.{length}
 use Rattle.bases.specs.declared.place.Place.{Place}
-use Rattle.bases.specs.Letter.{basesOf}
 use Rattle.bases.specs.Period.{Period, NoPeriod, anyPeriod?}
-use Rattle.bases.proofs.LetterLaws.{bases-length, bases-part}
 use Rattle.bases.proofs.PeriodLaws.{no-period-iff, no-period-long}
 use Rattle.bases.proofs.TestLaws.{of-true, of-false, is-true, is-false, both, either}
 use Rattle.donors.specs.Donor.{part}
@@ -100,15 +98,9 @@ module _ (R : List ℕ) (c : Current) (p : Place) where
   source-cut h k long none = gap-cut h k (λ q a d. none q a (omega arith))
 
 -- The same of bytes, as the code asks it.
-pub cut-bases : (bytes : List ℕ) (c : Current) (p : Place) → p .0 ≤ length bytes → c .b .0 ≤ p .0
-    → cut? (basesOf bytes) c p ≡ not (anyPeriod? (reachOf c) (basesOf (part bytes (c .b .0) (p .0))))
-cut-bases bytes c p h k =
-    let e : part (basesOf bytes) (c .b .0) (p .0) ≡ basesOf (part bytes (c .b .0) (p .0)) = sym (bases-part bytes (c .b .0) (p .0 - c .b .0)) in
-    cut-test (basesOf bytes) c p (rw (bases-length bytes) h) k ∙ ap (λ (y : List ℕ). not (anyPeriod? (reachOf c) y)) e
-
-pub cut-read : (bytes : List ℕ) (c : Current) (p : Place) {g : ℕ} {t : Bool} → p .0 ≤ length bytes → c .b .0 ≤ p .0
-    → g ≡ reachOf c → t ≡ anyPeriod? g (basesOf (part bytes (c .b .0) (p .0))) → not t ≡ cut? (basesOf bytes) c p
-cut-read bytes c p h k eg et = let e = cut-bases bytes c p h k in cc
+pub cut-read : (R : List ℕ) (c : Current) (p : Place) {g : ℕ} {t : Bool} → p .0 ≤ length R → c .b .0 ≤ p .0
+    → g ≡ reachOf c → t ≡ anyPeriod? g (part R (c .b .0) (p .0)) → not t ≡ cut? R c p
+cut-read R c p h k eg et = let e = cut-test R c p h k in cc
 
 pub largest-new : (b d : Place) → b .0 < d .0 → d ≡ record { 0 = max (b .0) (d .0) }
 largest-new b d h = let e : d .0 ≡ max (b .0) (d .0) = omega arith in ap (λ (n : ℕ). record { 0 = n }) e

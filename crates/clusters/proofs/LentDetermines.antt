@@ -15,6 +15,7 @@ use contract.Monad.{Fun, fact}
 use denote.Ref.{now}
 use denote.Triple.Entry.{Args, Res}
 use denote.Triple.Clauses.{Ended, AtExit, Clauses}
+use Rattle.bases.specs.Letter.{basesOf}
 use Rattle.bases.specs.Put.{put}
 use Rattle.clusters.specs.Lent.{isPlan?}
 use Rattle.clusters.specs.Plan.{planOf}
@@ -34,8 +35,8 @@ States T contract post =
 
 abbrev pub Filled : Relation fill-plan.ended
 Filled κs a z e =
-    (z ≡ length (planOf (now (a .0)) (now (a .1 .0)) (now (a .1 .1 .0))))
-    × (now (e .1 .1 .1 .0) ≡ put (now (a .1 .1 .1 .0)) 0 (planOf (now (a .0)) (now (a .1 .0)) (now (a .1 .1 .0))))
+    (z ≡ length (planOf (basesOf (now (a .0))) (now (a .1 .0)) (now (a .1 .1 .0))))
+    × (now (e .1 .1 .1 .0) ≡ put (now (a .1 .1 .1 .0)) 0 (planOf (basesOf (now (a .0))) (now (a .1 .0)) (now (a .1 .1 .0))))
 
 pub fill-plan-states : States fill-plan.ended (λ M 𝓤 H. fill-plan.clauses 𝓤 H) Filled
 fill-plan-states M 𝓤 H A mem run κs a g z e = refl
@@ -45,7 +46,7 @@ pub fill-plan-determines : (κs : Lfts 4) (a : Args fill-plan.signature κs) (z 
 fill-plan-determines κs a z z′ e e′ p q = (p .0 ∙ sym (q .0), p .1 ∙ sym (q .1))
 
 abbrev pub Judged : Relation is-plan.ended
-Judged κs a z e = z ≡ isPlan? (planOf (now (a .0)) (now (a .1 .0)) (now (a .1 .1 .0))) (now (a .1 .1 .1 .0))
+Judged κs a z e = z ≡ isPlan? (planOf (basesOf (now (a .0))) (now (a .1 .0)) (now (a .1 .1 .0))) (now (a .1 .1 .1 .0))
 
 pub is-plan-states : States is-plan.ended (λ M 𝓤 H. is-plan.clauses 𝓤 H) Judged
 is-plan-states M 𝓤 H A mem run κs a g z e = refl

@@ -15,7 +15,6 @@ use native.Mathlib.Omega.{arith}
 use lib.Dec.{T, eqb, eqb→eq, eqb-refl}
 use lib.ListN.{length, getD, set, take, drop}
 use lib.Seq.{length-take-le, take-length, take-suc}
-use Rattle.bases.specs.Letter.{basesOf}
 use Rattle.bases.specs.Put.{put}
 use Rattle.bases.proofs.PutLaws.{put-length, put-none, put-set, put-more}
 use Rattle.bases.proofs.TestLaws.{both}
@@ -59,7 +58,7 @@ plan-few reference first second =
     omega (
       arith,
       records-length 0 (cardPlan reference xs),
-      items-few cardRules (basesOf reference) xs,
+      items-few cardRules reference xs,
       map-length (variant reference first second) (mergedItems first second),
     )
 

@@ -12,7 +12,6 @@ use mathlib.Core.Path.{_≡_, refl, sym, ap, _∙_}
 use Prim.Native.Nat.{ℕ, zero, suc, _+_, _-_, _≤_}
 use native.Mathlib.Omega.{arith}
 use lib.ListN.{length, drop, length-drop}
-use Rattle.bases.specs.Letter.{basesOf}
 use Rattle.donors.specs.Choice.{Variant, cardRules}
 use Rattle.donors.specs.Rules.{Rules}
 use Rattle.vcf.specs.Entry.{recordsAt}
@@ -94,8 +93,8 @@ module _ (reference first second : List ℕ) where
       abbrev xs : List Variant
       xs = variantsFrom reference first second (behind reference first second h)
 
-      count-of : firstCount reference first second h ≡ left cardRules (basesOf reference) (begin (sizeOf cardRules x)) xs + 1
-      count-of = rw (variants-step reference first second h e) (first-plan cardRules (basesOf reference) x xs)
+      count-of : firstCount reference first second h ≡ left cardRules reference (begin (sizeOf cardRules x)) xs + 1
+      count-of = rw (variants-step reference first second h e) (first-plan cardRules reference x xs)
 
       pub count-some : 1 ≤ firstCount reference first second h
       count-some = omega (arith, count-of)
@@ -105,7 +104,7 @@ module _ (reference first second : List ℕ) where
           omega (
             arith,
             count-of,
-            left-le cardRules (basesOf reference) (begin (sizeOf cardRules x)) xs,
+            left-le cardRules reference (begin (sizeOf cardRules x)) xs,
             map-length (variant reference first second) (itemsFrom first second (behind reference first second h)),
             ap length (items-step first second h e .split),
           )
@@ -130,7 +129,7 @@ module _ (reference first second : List ℕ) where
           rw variants-passed (step (variantsFrom reference first second h) s)
         where
           step : (ys : List Variant) → ys ≡ x ∷ xs → cardPlan reference ys ≡ firstOf (cardPlan reference ys) ∷ cardPlan reference (drop (length (firstOf (cardPlan reference ys))) ys)
-          step ys s = rw s (plan-step cardRules (basesOf reference) x xs)
+          step ys s = rw s (plan-step cardRules reference x xs)
 
       pub records-next : (i : ℕ) → recordsFrom i (cardPlan reference (variantsFrom reference first second h))
           ≡ record { first = i; count = firstCount reference first second h }

@@ -39,6 +39,7 @@ use denote.Struct.Laws as LL
 use denote.Struct.Struct.{twices}
 use denote.Triple.Spec.{tripleOf}
 use denote.Triple.Statement.{Contract, Triple}
+use Rattle.bases.specs.Letter.{basesOf}
 use Rattle.clusters.specs.declared.heads.Heads.{Heads}
 use Rattle.clusters.specs.declared.plan.Cluster.{Cluster}
 use Rattle.clusters.specs.declared.plan.Walk.{Walk}
@@ -95,24 +96,24 @@ module _ (xs : Refs) where
   heads = startHeads (xs .1 .0 .now) (xs .1 .1 .0 .now)
 
   abbrev pub P : List Cluster
-  P = planOf (xs .0 .now) (xs .1 .0 .now) (xs .1 .1 .0 .now)
+  P = planOf (basesOf (xs .0 .now)) (xs .1 .0 .now) (xs .1 .1 .0 .now)
 
   abbrev pub Asked : ℕ → Type 0
-  Asked m = Ready (xs .0 .now) (xs .1 .0 .now) (xs .1 .1 .0 .now) heads × (length P ≤ m)
+  Asked m = Ready (basesOf (xs .0 .now)) (xs .1 .0 .now) (xs .1 .1 .0 .now) heads × (length P ≤ m)
 
   abbrev pub step-at : ℕ → Walk
-  step-at k = walkAt (xs .0 .now) (xs .1 .0 .now) (xs .1 .1 .0 .now) k 0 heads
+  step-at k = walkAt (basesOf (xs .0 .now)) (xs .1 .0 .now) (xs .1 .1 .0 .now) k 0 heads
 
   abbrev pub Good : ℕ → Type 0
   Good k = Is S (step-at k) (Walk″.lowered (step-at k) ∷ [])
 
   -- each step that the plan has a record for, and the one behind the last
   pub stands : {m : ℕ} (k : ℕ) → Asked m → k < length P
-      → Stands (xs .0 .now) (xs .1 .0 .now) (xs .1 .1 .0 .now) (0 + length (itemsFrom (xs .1 .0 .now) (xs .1 .1 .0 .now) heads)) (getD P k none) (step-at k)
-  stands k asked less = walk-stands (xs .0 .now) (xs .1 .0 .now) (xs .1 .1 .0 .now) _ k 0 heads none (asked .0, refl) less
+      → Stands (basesOf (xs .0 .now)) (xs .1 .0 .now) (xs .1 .1 .0 .now) (0 + length (itemsFrom (xs .1 .0 .now) (xs .1 .1 .0 .now) heads)) (getD P k none) (step-at k)
+  stands k asked less = walk-stands (basesOf (xs .0 .now)) (xs .1 .0 .now) (xs .1 .1 .0 .now) _ k 0 heads none (asked .0, refl) less
 
   pub over : {m : ℕ} (k : ℕ) → Asked m → k ≡ length P → step-at k .more ≡ false
-  over k asked e = walk-ends (xs .0 .now) (xs .1 .0 .now) (xs .1 .1 .0 .now) _ k 0 heads (asked .0, refl) e
+  over k asked e = walk-ends (basesOf (xs .0 .now)) (xs .1 .0 .now) (xs .1 .1 .0 .now) _ k 0 heads (asked .0, refl) e
 
   abbrev pub vals : List Val × (List Val × (List Val × Unit {0}))
   vals = (slice-vals (xs .0), (slice-vals (xs .1 .0), (slice-vals (xs .1 .1 .0), tt)))
@@ -145,8 +146,8 @@ module _ {M : Type 1} (𝓤 : URA M) (H : Heap 𝓤) (A : Atoms 𝓤) (W : Given
   begins t known m asked opds k =
       move t (1 ∷ []) $ use1 W (‵ (texts κs xs) ⊛ ‵ (texts κs xs)) (texts-twice 𝓤 H A W κs xs) $ split t $ move t (2 ∷ 0 ∷ []) $
       tells t (fmOf 𝓤 H (W .laws) 𝓣) first-walk.ended (first-walk.clauses 𝓤 H A mem run) known (to-first 𝓤 H A mem run κs qs xs) (factI 𝓤 _ _ (asked .0))
-      (λ (w : Walk). Walk″.lowered w) (Walk″.lowers .val-is) (firstWalk (xs .0 .now) (xs .1 .0 .now) (xs .1 .1 .0 .now)) (λ r ws. refl)
-      (step-at xs 0) (walk-start (xs .0 .now) (xs .1 .0 .now) (xs .1 .1 .0 .now) 0 (heads xs)) opds
+      (λ (w : Walk). Walk″.lowered w) (Walk″.lowers .val-is) (firstWalk (basesOf (xs .0 .now)) (xs .1 .0 .now) (xs .1 .1 .0 .now)) (λ r ws. refl)
+      (step-at xs 0) (walk-start (basesOf (xs .0 .now)) (xs .1 .0 .now) (xs .1 .1 .0 .now) 0 (heads xs)) opds
       (λ is. k (LL.lawful Walk′.the-type Walk″.the-laws 𝓤 H A W .typed (step-at xs 0) _ is .0) is)
 
   pub goes-on : K → Triple 𝓤 (𝓣 .C next-walk-key) (Next 𝓤 H A mem run) → (m : ℕ) → Asked xs m → (i : ℕ) → i < length (P xs) → Good xs i
@@ -157,12 +158,12 @@ module _ {M : Type 1} (𝓤 : URA M) (H : Heap 𝓤) (A : Atoms 𝓤) (W : Given
       let w = step-at xs i in
       let s = stands xs {m = m} i asked less in
       let fits : w .cluster .first + w .cluster .count + length (itemsFrom (xs .1 .0 .now) (xs .1 .1 .0 .now) (w .heads)) < 2 ^ 32 =
-      omega (arith, s .good .1, start-fits (xs .0 .now) (xs .1 .0 .now) (xs .1 .1 .0 .now) (asked .0)) in
+      omega (arith, s .good .1, start-fits (basesOf (xs .0 .now)) (xs .1 .0 .now) (xs .1 .1 .0 .now) (asked .0)) in
       move t (1 ∷ []) $ use1 W (‵ (texts κs xs) ⊛ ‵ (texts κs xs)) (texts-twice 𝓤 H A W κs xs) $ split t $
       owned t S (Is S) ((LL.makes Walk′.the-type Walk″.the-plain) 𝓤 H A) w (Walk″.lowered w ∷ []) good $ move t (1 ∷ 0 ∷ []) $
       use2 W (‵ (owns (Texts κs ++ (S ∷ [])) (lastIn (Texts κs) S xs w) (lastVals (Texts κs) S (vals xs) (Walk″.lowered w ∷ [])))) (last-in 𝓤 H A W S w (Walk″.lowered w ∷ []) (Texts κs) xs (vals xs))
       $ move t (2 ∷ 0 ∷ []) $
       tells t (fmOf 𝓤 H (W .laws) 𝓣) next-walk.ended (next-walk.clauses 𝓤 H A mem run) known (to-next 𝓤 H A mem run κs qs xs w) (factI 𝓤 _ _ (s .good .0, fits))
-      (λ (w : Walk). Walk″.lowered w) (Walk″.lowers .val-is) (nextWalk (xs .0 .now) (xs .1 .0 .now) (xs .1 .1 .0 .now) w) (λ r ws. refl)
-      (step-at xs (i + 1)) (walk-next (xs .0 .now) (xs .1 .0 .now) (xs .1 .1 .0 .now) i 0 (heads xs)) opds
+      (λ (w : Walk). Walk″.lowered w) (Walk″.lowers .val-is) (nextWalk (basesOf (xs .0 .now)) (xs .1 .0 .now) (xs .1 .1 .0 .now) w) (λ r ws. refl)
+      (step-at xs (i + 1)) (walk-next (basesOf (xs .0 .now)) (xs .1 .0 .now) (xs .1 .1 .0 .now) i 0 (heads xs)) opds
       (λ is. k (LL.lawful Walk′.the-type Walk″.the-laws 𝓤 H A W .typed (step-at xs (i + 1)) _ is .0) is)

@@ -19,6 +19,7 @@ use lib.Seq.{length-take-le}
 use Rattle.bases.specs.declared.place.Pos.{Pos}
 use Rattle.bases.specs.Letter.{basesOf}
 use Rattle.bases.proofs.LetterLaws.{bases-length}
+use Rattle.bases.proofs.StretchLaws.{stretch-length}
 use Rattle.bases.proofs.TestLaws.{of-true, both, neither}
 use Rattle.bases.specs.Pick.{pick}
 use Rattle.donors.specs.Apart.{All}
@@ -71,7 +72,7 @@ module _ (reference t : List ℕ) (a : ℕ) (inside : a < length t) (line : Reco
       go false h = absurd (omega arith)
 
   allele-long : (k : ℕ) → k ≤ altCount (field 4 (lineAt t a)) → length (alleleOf reference t (entryOf (lineAt t a) a) k) ≡ lenOf (entryOf (lineAt t a) a) k
-  allele-long zero h = part-size reference (startOf (entryOf (lineAt t a) a) .0) (entryOf (lineAt t a) a .reference .len) (line .within)
+  allele-long zero h = stretch-length reference (startOf (entryOf (lineAt t a) a) .0) (entryOf (lineAt t a) a .reference .len) (line .within)
   allele-long (suc zero) h =
       part-size t (entryOf (lineAt t a) a .first .at) (entryOf (lineAt t a) a .first .len) (first-within t a (omega arith) (line .ten))
   allele-long (suc (suc k)) h =

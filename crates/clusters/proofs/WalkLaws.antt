@@ -13,7 +13,6 @@ use Prim.Native.Nat.{ℕ, _+_, _≤_}
 use native.Mathlib.Omega.{arith}
 use lib.ListN.{length}
 use Rattle.bases.specs.declared.place.Place.{Place}
-use Rattle.bases.specs.Letter.{basesOf}
 use Rattle.donors.specs.Choice.{Variant, cardRules}
 use Rattle.donors.specs.Items.{only}
 use Rattle.donors.specs.Rules.{list1, list2}
@@ -61,7 +60,7 @@ module _ (reference first second : List ℕ) (i : Item) (s : SoundItem reference
 
 -- How many more entries the current cluster has, from the cursors on.
 abbrev pub leftFrom : List ℕ → List ℕ → List ℕ → Current → Heads → ℕ
-leftFrom reference first second c h = left cardRules (basesOf reference) c (variantsFrom reference first second h)
+leftFrom reference first second c h = left cardRules reference c (variantsFrom reference first second h)
 
 module _ (reference first second : List ℕ) (h : Heads) where
   -- The next entry, and the cursors behind it.
@@ -72,29 +71,29 @@ module _ (reference first second : List ℕ) (h : Heads) where
   behind = moved first second h (nextItem first second h .side)
 
   pub left-done : (c : Current) → done? first second h ≡ true → leftFrom reference first second c h ≡ 0
-  left-done c e = rw (items-none first second h e) (first-none cardRules (basesOf reference) c)
+  left-done c e = rw (items-none first second h e) (first-none cardRules reference c)
 
   module _ (more? : done? first second h ≡ false) where
     pub variants-step : variantsFrom reference first second h ≡ variant reference first second next ∷ variantsFrom reference first second behind
     variants-step = ap (map (variant reference first second)) (items-step first second h more? .split)
 
-    pub left-cut : (c : Current) → cut? (basesOf reference) c (itemSize next .start) ≡ true → leftFrom reference first second c h ≡ 0
+    pub left-cut : (c : Current) → cut? reference c (itemSize next .start) ≡ true → leftFrom reference first second c h ≡ 0
     left-cut c e =
-        rw variants-step (first-cut cardRules (basesOf reference) c (variant reference first second next) (variantsFrom reference first second behind) e)
+        rw variants-step (first-cut cardRules reference c (variant reference first second next) (variantsFrom reference first second behind) e)
 
     module _ (ready : Ready reference first second h) where
       size : sizeOf cardRules (variant reference first second next) ≡ itemSize next
       size = item-size reference first second next (next-sound reference first second h ready more?)
 
-      pub left-more : (c : Current) → cut? (basesOf reference) c (itemSize next .start) ≡ false → leftFrom reference first second c h
+      pub left-more : (c : Current) → cut? reference c (itemSize next .start) ≡ false → leftFrom reference first second c h
           ≡ leftFrom reference first second (more c (itemSize next)) behind + 1
       left-more c e =
-          ap (λ (xs : List Variant). left cardRules (basesOf reference) c xs) variants-step
-          ∙ first-more cardRules (basesOf reference) c (variant reference first second next) (variantsFrom reference first second behind) e
+          ap (λ (xs : List Variant). left cardRules reference c xs) variants-step
+          ∙ first-more cardRules reference c (variant reference first second next) (variantsFrom reference first second behind) e
           ∙ ap (λ (z : Size). leftFrom reference first second (more c z) behind + 1) size
 
       pub count-begin : firstCount reference first second h ≡ leftFrom reference first second (begin (itemSize next)) behind + 1
       count-begin =
           ap (λ (xs : List Variant). length (firstOf (cardPlan reference xs))) variants-step
-          ∙ first-plan cardRules (basesOf reference) (variant reference first second next) (variantsFrom reference first second behind)
+          ∙ first-plan cardRules reference (variant reference first second next) (variantsFrom reference first second behind)
           ∙ ap (λ (z : Size). leftFrom reference first second (begin z) behind + 1) size

@@ -8,10 +8,11 @@ use lib.ListN.{length}
 use Rattle.bases.specs.Letter.{basesOf}
 use Rattle.bases.specs.declared.place.Place.{Place}
 use Rattle.bases.specs.Place.{placeOf}
+use Rattle.bases.specs.Stretch.{stretch}
 use Rattle.donors.specs.Choice.{Variant}
 use Rattle.vcf.specs.declared.entry.Entry.{Entry}
 use Rattle.fields.specs.Allele.{longestAllele}
-use Rattle.vcf.specs.Entry.{part, bytesOf}
+use Rattle.vcf.specs.Entry.{bytesOf}
 use Rattle.clusters.specs.declared.gap.Size.{Size}
 use Rattle.clusters.specs.declared.item.Item.{Item}
 
@@ -25,10 +26,10 @@ named (suc (suc k)) ref first second = second
 abbrev pub startOf : Entry → Place
 startOf e = placeOf (e .pos)
 
--- The bases of allele k: REF as a part of the reference, an ALT as a part of the list's text.
+-- The bases of allele k: REF as a stretch of the reference, which is the list of its bases, an ALT as a part of the list's text.
 abbrev pub alleleOf : List ℕ → List ℕ → Entry → ℕ → List ℕ
 alleleOf reference text e k =
-    basesOf (named k (bytesOf reference (part (startOf e .0) (e .reference .len))) (bytesOf text (e .first)) (bytesOf text (e .second)))
+    named k (stretch reference (startOf e .0) (e .reference .len)) (basesOf (bytesOf text (e .first))) (basesOf (bytesOf text (e .second)))
 
 -- The entry as matching reads it: its list, where REF starts, how long REF is, its weight, and the alleles that its copies' numbers name,
 -- each of which takes its span.

@@ -4,7 +4,6 @@ use mathlib.Core.Bool.{cond}
 use mathlib.Core.List.{List, [], _∷_, _++_}
 use Prim.Native.Nat.{ℕ, _+_}
 use lib.ListN.{length}
-use Rattle.bases.specs.Letter.{basesOf}
 use Rattle.donors.specs.Choice.{Variant, cardRules}
 use Rattle.donors.specs.Rules.{Rules}
 use Rattle.clusters.specs.declared.gap.Current.{Current}
@@ -44,7 +43,7 @@ recordsFrom i (c ∷ cs) = record { first = i; count = length c } ∷ recordsFro
 
 -- The card's clusters of entries on a reference.
 abbrev pub cardPlan : List ℕ → List Variant → List (List Variant)
-cardPlan reference xs = plan cardRules (basesOf reference) xs
+cardPlan reference xs = plan cardRules reference xs
 
 -- The plan of two lists.
 abbrev pub planOf : List ℕ → List ℕ → List ℕ → List Cluster

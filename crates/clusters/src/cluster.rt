@@ -1,6 +1,7 @@
 // The clusters, one at a time: a walk from entry to entry up to the next cut.
 ghost use mathlib.Core.Bool.{false};
 ghost use mathlib.Core.Path.{_≡_};
+ghost use Rattle.bases.specs.Letter.{basesOf};
 ghost use Rattle.clusters.specs.Heads.{Ready, done?, foundAt};
 use crate::gap::begin;
 use crate::gap::is_cut;
@@ -21,9 +22,9 @@ pub struct Found {
 pub fn next_cluster(reference: &[u8], first: &[u8], second: &[u8], heads: Heads) -> Found
     requires { ⌜
         (done? (now first) (now second) heads ≡ false)
-        × Ready (now reference) (now first) (now second) heads
+        × Ready (basesOf (now reference)) (now first) (now second) heads
         ⌝ }
-    ensures { λ r. ⌜ r ≡ foundAt (now (reference .entry)) (now (first .entry)) (now (second .entry)) heads ⌝ }
+    ensures { λ r. ⌜ r ≡ foundAt (basesOf (now (reference .entry))) (now (first .entry)) (now (second .entry)) heads ⌝ }
 {
     let item = next_item(first, second, heads);
     let mut current = begin(size_of(item));

@@ -4,8 +4,8 @@ ghost use Prim.Native.Nat.{_+_, _≤_, _<_, _^_};
 ghost use lib.ListN.{length};
 ghost use Rattle.bases.specs.Letter.{basesOf};
 ghost use Rattle.clusters.specs.Gap.{more, Adds, nothing, begin, reachOf, cut?};
-use bases::period::has_any_period;
 use bases::place::Place;
+use bases::reference::has_any_period;
 
 // What the rule reads of an entry: is it of list 1, where its span starts and ends, and by how much its alleles are shorter or longer than
 // REF.
@@ -89,7 +89,7 @@ fn reach_of(current: Current) -> usize
 // asked for.
 pub fn is_cut(reference: &[u8], current: Current, start: Place) -> bool
     requires { ⌜
-        (start .0 ≤ length (now reference))
+        (start .0 ≤ length (basesOf (now reference)))
         × (current .b1 + current .a2 < 2 ^ 64)
         × (current .b2 + current .a1 < 2 ^ 64)
         ⌝ }
@@ -102,5 +102,5 @@ pub fn is_cut(reference: &[u8], current: Current, start: Place) -> bool
         return false;
     }
     let g = reach_of(current);
-    !has_any_period(&reference[from..to], g)
+    !has_any_period(reference, from, to, g)
 }

@@ -3,6 +3,7 @@
 ghost use mathlib.Core.Path.{_≡_};
 ghost use Prim.Native.Nat.{_+_, _≤_, _<_, _^_};
 ghost use lib.ListN.{length};
+ghost use Rattle.bases.specs.Letter.{basesOf};
 ghost use Rattle.bases.specs.Put.{put};
 ghost use Rattle.clusters.specs.Heads.{Ready, startHeads, itemsFrom};
 ghost use Rattle.clusters.specs.Lent.{isPlan?};
@@ -30,10 +31,10 @@ pub struct Walk {
 // The step at the cursors, whose next entry is entry `i`. Where none is left, the record has no entry and the cursors stay.
 fn walk_from(reference: &[u8], first: &[u8], second: &[u8], i: u32, heads: Heads) -> Walk
     requires { ⌜
-        Ready (now reference) (now first) (now second) heads
+        Ready (basesOf (now reference)) (now first) (now second) heads
         × (i + length (itemsFrom (now first) (now second) heads) < 2 ^ 32)
         ⌝ }
-    ensures { λ r. ⌜ r ≡ walkFrom (now (reference .entry)) (now (first .entry)) (now (second .entry)) i heads ⌝ }
+    ensures { λ r. ⌜ r ≡ walkFrom (basesOf (now (reference .entry))) (now (first .entry)) (now (second .entry)) i heads ⌝ }
 {
     if is_done(first, second, heads) {
         return Walk {
@@ -54,8 +55,8 @@ fn walk_from(reference: &[u8], first: &[u8], second: &[u8], i: u32, heads: Heads
 
 // The first step.
 pub fn first_walk(reference: &[u8], first: &[u8], second: &[u8]) -> Walk
-    requires { ⌜ Ready (now reference) (now first) (now second) (startHeads (now first) (now second)) ⌝ }
-    ensures { λ r. ⌜ r ≡ firstWalk (now (reference .entry)) (now (first .entry)) (now (second .entry)) ⌝ }
+    requires { ⌜ Ready (basesOf (now reference)) (now first) (now second) (startHeads (now first) (now second)) ⌝ }
+    ensures { λ r. ⌜ r ≡ firstWalk (basesOf (now (reference .entry))) (now (first .entry)) (now (second .entry)) ⌝ }
 {
     let heads = start_heads(first, second);
     walk_from(reference, first, second, 0, heads)
@@ -64,10 +65,10 @@ pub fn first_walk(reference: &[u8], first: &[u8], second: &[u8]) -> Walk
 // The step behind one.
 pub fn next_walk(reference: &[u8], first: &[u8], second: &[u8], walk: Walk) -> Walk
     requires { ⌜
-        Ready (now reference) (now first) (now second) (walk .heads)
+        Ready (basesOf (now reference)) (now first) (now second) (walk .heads)
         × (walk .cluster .first + walk .cluster .count + length (itemsFrom (now first) (now second) (walk .heads)) < 2 ^ 32)
         ⌝ }
-    ensures { λ r. ⌜ r ≡ nextWalk (now (reference .entry)) (now (first .entry)) (now (second .entry)) walk ⌝ }
+    ensures { λ r. ⌜ r ≡ nextWalk (basesOf (now (reference .entry))) (now (first .entry)) (now (second .entry)) walk ⌝ }
 {
     let cluster = walk.cluster;
     let heads = walk.heads;
@@ -84,12 +85,13 @@ pub fn next_walk(reference: &[u8], first: &[u8], second: &[u8], walk: Walk) -> W
 // changes.
 pub fn fill_plan(reference: &[u8], first: &[u8], second: &[u8], plan: &mut [Cluster]) -> usize
     requires { ⌜
-        Ready (now reference) (now first) (now second) (startHeads (now first) (now second))
-        × (length (planOf (now reference) (now first) (now second)) ≤ length (now plan))
+        Ready (basesOf (now reference)) (now first) (now second) (startHeads (now first) (now second))
+        × (length (planOf (basesOf (now reference)) (now first) (now second)) ≤ length (now plan))
         ⌝ }
     ensures { λ r. ⌜
-        (r ≡ length (planOf (now (reference .entry)) (now (first .entry)) (now (second .entry))))
-        × (now (plan .exit) ≡ put (now (plan .entry)) 0 (planOf (now (reference .entry)) (now (first .entry)) (now (second .entry))))
+        (r ≡ length (planOf (basesOf (now (reference .entry))) (now (first .entry)) (now (second .entry))))
+        × (now (plan .exit) ≡ put (now (plan .entry)) 0
+        (planOf (basesOf (now (reference .entry))) (now (first .entry)) (now (second .entry))))
         ⌝ }
 {
     let mut walk = first_walk(reference, first, second);
@@ -105,10 +107,11 @@ pub fn fill_plan(reference: &[u8], first: &[u8], second: &[u8], plan: &mut [Clus
 // Are the records given the plan of these lists? Only the first ones, as many as there are clusters, are judged.
 pub fn is_plan(reference: &[u8], first: &[u8], second: &[u8], plan: &[Cluster]) -> bool
     requires { ⌜
-        Ready (now reference) (now first) (now second) (startHeads (now first) (now second))
-        × (length (planOf (now reference) (now first) (now second)) ≤ length (now plan))
+        Ready (basesOf (now reference)) (now first) (now second) (startHeads (now first) (now second))
+        × (length (planOf (basesOf (now reference)) (now first) (now second)) ≤ length (now plan))
         ⌝ }
-    ensures { λ r. ⌜ r ≡ isPlan? (planOf (now (reference .entry)) (now (first .entry)) (now (second .entry))) (now (plan .entry)) ⌝ }
+    ensures { λ r. ⌜ r ≡ isPlan? (planOf (basesOf (now (reference .entry))) (now (first .entry)) (now (second .entry)))
+        (now (plan .entry)) ⌝ }
 {
     let mut walk = first_walk(reference, first, second);
     let mut same = true;

@@ -6,7 +6,7 @@ use Prim.Native.Nat.{ℕ}
 use Rattle.bases.specs.First.{firstTold}
 use Rattle.marks.specs.Counts.{howMany, ownMarks}
 use Rattle.compare.specs.Compared.{comparedText}
-use Rattle.bases.specs.Letter.{among?, letterOf, allLetters?}
+use Rattle.bases.specs.Letter.{letterAmong, letterOf, allLetters?}
 use Rattle.bases.specs.Period.{anyPeriod?}
 use Rattle.bases.specs.Same.{agree?}
 use Rattle.marks.specs.Marks.{totalScore}
@@ -63,14 +63,14 @@ printed =
     108 ∷ 9 ∷ 50 ∷ 9 ∷ 48 ∷ 9 ∷ 48 ∷ 9 ∷ 50 ∷ 10 ∷ []
 
 pub example-1 : comparedText reference chromName first second ≡ printed
-unfolding among? letterOf allLetters? anyPeriod? agree? allDigits? valueFrom isPos? copiesWrong? skip full? linesOf judgeLines judgeText until headerWrong? firstTold headerBytes entriesFrom
+unfolding letterAmong letterOf allLetters? anyPeriod? agree? allDigits? valueFrom isPos? copiesWrong? skip full? linesOf judgeLines judgeText until headerWrong? firstTold headerBytes entriesFrom
     digitsOf chain? edits donorFrom over first? better bestOver search score join every? allowed? bestOf totalScore weave merged rest plan recordsFrom howMany ownMarks numbersFrom
     entryLines comparedText
 example-1 = refl
 
 -- refused 1 0 0 0
 pub example-empty : comparedText [] chromName [] [] ≡ 114 ∷ 101 ∷ 102 ∷ 117 ∷ 115 ∷ 101 ∷ 100 ∷ 9 ∷ 49 ∷ 9 ∷ 48 ∷ 9 ∷ 48 ∷ 9 ∷ 48 ∷ 10 ∷ []
-unfolding among? letterOf allLetters? anyPeriod? agree? allDigits? valueFrom isPos? copiesWrong? skip full? linesOf judgeLines judgeText until headerWrong? firstTold headerBytes entriesFrom
+unfolding letterAmong letterOf allLetters? anyPeriod? agree? allDigits? valueFrom isPos? copiesWrong? skip full? linesOf judgeLines judgeText until headerWrong? firstTold headerBytes entriesFrom
     digitsOf chain? edits donorFrom over first? better bestOver search score join every? allowed? bestOf totalScore weave merged rest plan recordsFrom howMany ownMarks numbersFrom
     entryLines comparedText
 example-empty = refl

@@ -9,13 +9,14 @@ use mathlib.Core.Path.{_≡_, sym, ap, _∙_}
 use Prim.Native.Nat.{ℕ, _+_, _≤_}
 use native.Mathlib.Omega.{arith}
 use lib.ListN.{length, take, drop}
+use Rattle.bases.specs.Letter.{basesOf}
 use Rattle.card.specs.declared.all.AllMarked.{AllMarked}
 use Rattle.card.specs.Refusal.{leastRoom}
 use Rattle.clusters.specs.declared.plan.Cluster.{Cluster}
 use Rattle.marks.specs.Marks.{clustersOf, allMarks, totalScore}
 use Rattle.clusters.specs.Merged.{mergedItems}
 use Rattle.clusters.specs.Plan.{planOf}
-use Rattle.files.specs.File.{basesOfFile}
+use Rattle.files.specs.File.{referenceIn}
 use Rattle.lines.specs.Lines.{largestNumber, refusedText}
 use Rattle.told.specs.Files.{refusalOf, filesAnswered, filesPlan, filesMarks}
 use Rattle.told.proofs.FilesLaws.{Tells, files-tell, files-printable, accepted-files, files-answerable, files-clusters, files-score, files-plan, files-marks, files-marked}
@@ -30,7 +31,7 @@ use Rattle.compare.proofs.ComparedLaws.{accepted-text}
 module _ (file name first second : List ℕ) (answer : AllMarked) (plan : List Cluster) (before marks : List ℕ) (long : length before ≡ leastRoom)
     (answered : answer ≡ filesAnswered file name first second before) (planned : plan ≡ filesPlan file name first second before) (wrote : marks ≡ filesMarks file name first second before) where
   abbrev r : List ℕ
-  r = basesOfFile file
+  r = referenceIn file
 
   tells : Tells answer (refusalOf file name first second)
   tells = rw answered (files-tell file name first second before long)
@@ -40,32 +41,33 @@ module _ (file name first second : List ℕ) (answer : AllMarked) (plan : List C
 
   pub text-refused : answer .number ≢ 0 → comparedText file name first second ≡ refusedText (answer .number) (answer .list) (answer .line) (answer .place)
   unfolding comparedText
-  text-refused n = numbers-refused (answer .number) (answer .list) (answer .line) (answer .place) (refusalOf file name first second) tells (acceptedText r first second) n
+  text-refused n = numbers-refused (answer .number) (answer .list) (answer .line) (answer .place) (refusalOf file name first second) tells (acceptedText (basesOf r) first second) n
 
   module _ (zero : answer .number ≡ 0) where
     z : refusalOf file name first second .number ≡ 0
     z = sym (tells .same-number) ∙ zero
 
-    accept : (judgeText r name first .number ≡ 0) × (judgeText r name second .number ≡ 0)
+    accept : (judgeText (basesOf r) name first .number ≡ 0) × (judgeText (basesOf r) name second .number ≡ 0)
     accept = accepted-files file name first second z
 
-    clusters-are : answer .clusters ≡ length (planOf r first second)
+    clusters-are : answer .clusters ≡ length (planOf (basesOf r) first second)
     clusters-are = ap (λ (a : AllMarked). a .clusters) answered ∙ files-clusters file name first second before long z
 
-    score-is : answer .score ≡ totalScore r (clustersOf r first second)
+    score-is : answer .score ≡ totalScore (basesOf r) (clustersOf (basesOf r) first second)
     score-is = ap (λ (a : AllMarked). a .score) answered ∙ files-score file name first second before long z
 
-    taken : take (answer .clusters) plan ≡ planOf r first second
+    taken : take (answer .clusters) plan ≡ planOf (basesOf r) first second
     taken = rw (answered, planned) (files-plan file name first second before long z)
 
     pub text-makes : (room : ℕ) → textMost ≤ room → Makes first second plan (answer .clusters) marks (answer .score) room
     text-makes room h =
-        accepted-makes r first second (files-answerable file name first second z) plan (answer .clusters) marks (answer .score) room clusters-are taken
+        accepted-makes (basesOf r) first second (files-answerable file name first second z) plan (answer .clusters) marks (answer .score) room clusters-are taken
         (omega (arith, ap length wrote, files-marked file name first second before long z)) score-is h
 
     pub text-accepted : printedText (take (answer .clusters) plan) (mergedItems first second) marks (answer .score) ≡ comparedText file name first second
     unfolding comparedText
     text-accepted =
-        accepted-text r name first second (accept .0) (accept .1) (take (answer .clusters) plan) marks (drop (0 + length (allMarks r (clustersOf r first second))) before) (answer .score)
+        accepted-text (basesOf r) name first second (accept .0) (accept .1) (take (answer .clusters) plan) marks (drop (0 + length (allMarks (basesOf r) (clustersOf (basesOf r) first second))) before)
+        (answer .score)
         taken (wrote ∙ files-marks file name first second before long z) score-is
-        ∙ sym (numbers-text (answer .number) (answer .list) (answer .line) (answer .place) (refusalOf file name first second) tells (acceptedText r first second) zero)
+        ∙ sym (numbers-text (answer .number) (answer .list) (answer .line) (answer .place) (refusalOf file name first second) tells (acceptedText (basesOf r) first second) zero)

@@ -3,11 +3,12 @@
 -- Assumes nothing: these are definitions.
 use mathlib.Core.List.{List}
 use Prim.Native.Nat.{ℕ}
+use Rattle.bases.specs.Letter.{basesOf}
 use Rattle.marks.specs.Marks.{clustersOf, allMarks, totalScore}
 use Rattle.clusters.specs.Merged.{mergedItems}
 use Rattle.clusters.specs.Plan.{planOf}
 use Rattle.files.specs.declared.given.Given.{Given}
-use Rattle.files.specs.File.{basesOfFile}
+use Rattle.files.specs.File.{referenceIn}
 use Rattle.files.specs.Given.{nameIn, fileIn, firstIn, secondIn}
 use Rattle.told.specs.Files.{refusalOf}
 use Rattle.told.specs.Told.{toldText}
@@ -20,7 +21,7 @@ acceptedText reference first second =
     printedText (planOf reference first second) (mergedItems first second) (allMarks reference cs) (totalScore reference cs)
 
 unfoldable pub comparedText : List ℕ → List ℕ → List ℕ → List ℕ → List ℕ
-comparedText file name first second = toldText (refusalOf file name first second) (acceptedText (basesOfFile file) first second)
+comparedText file name first second = toldText (refusalOf file name first second) (acceptedText (basesOf (referenceIn file)) first second)
 
 -- The same for what the program is given.
 abbrev pub comparedIn : List ℕ → Given → List ℕ

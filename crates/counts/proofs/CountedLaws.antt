@@ -12,6 +12,7 @@ use Prim.Native.Nat.{ℕ, _+_, _≤_}
 use native.Mathlib.Omega.{arith}
 use lib.Dec.{ltb}
 use lib.ListN.{length, drop}
+use Rattle.bases.specs.Letter.{basesOf}
 use Rattle.card.specs.declared.all.AllMarked.{AllMarked}
 use Rattle.card.specs.declared.refusal.Refusal.{Refusal}
 use Rattle.card.specs.All.{allRefusal, allBytes}
@@ -32,7 +33,7 @@ use Rattle.marks.specs.Marks.{clustersOf, allMarks}
 use Rattle.clusters.specs.Merged.{mergedItems}
 use Rattle.marks.proofs.CountLaws.{counts-few, counts-marks}
 use Rattle.clusters.proofs.HeadsLaws.{ready-readable}
-use Rattle.files.specs.File.{basesOfFile}
+use Rattle.files.specs.File.{referenceIn}
 use Rattle.lines.specs.Lines.{largestNumber, refusedText}
 use Rattle.told.specs.Files.{refusalOf, filesAnswered, filesMarks}
 use Rattle.told.proofs.FilesLaws.{Tells, files-tell, files-printable, accepted-files, files-answerable, files-marks, files-marked}
@@ -42,7 +43,7 @@ use Rattle.counts.specs.Counted.{countsLine, countsFor, countedText}
 module _ (file name first second : List ℕ) (answer : AllMarked) (before marks : List ℕ) (long : length before ≡ leastRoom)
     (answered : answer ≡ filesAnswered file name first second before) (wrote : marks ≡ filesMarks file name first second before) where
   abbrev r : List ℕ
-  r = basesOfFile file
+  r = referenceIn file
 
   tells : Tells answer (refusalOf file name first second)
   tells = rw answered (files-tell file name first second before long)
@@ -52,7 +53,7 @@ module _ (file name first second : List ℕ) (answer : AllMarked) (before marks 
 
   pub text-refused : answer .number ≢ 0 → countedText file name first second ≡ refusedText (answer .number) (answer .list) (answer .line) (answer .place)
   unfolding countedText
-  text-refused n = numbers-refused (answer .number) (answer .list) (answer .line) (answer .place) (refusalOf file name first second) tells (countsLine (countsFor r first second)) n
+  text-refused n = numbers-refused (answer .number) (answer .list) (answer .line) (answer .place) (refusalOf file name first second) tells (countsLine (countsFor (basesOf r) first second)) n
 
   module _ (zero : answer .number ≡ 0) where
     z : refusalOf file name first second .number ≡ 0
@@ -61,7 +62,7 @@ module _ (file name first second : List ℕ) (answer : AllMarked) (before marks 
     pub text-counts : Readable first second (startHeads first second) × (length (mergedItems first second) ≤ length marks) × (length (mergedItems first second) ≤ mostEntries)
     text-counts =
         let a = files-answerable file name first second z in
-        (ready-readable r first second (startHeads first second) (a .ready), omega (arith, ap length wrote, files-marked file name first second before long z), a .entries)
+        (ready-readable (basesOf r) first second (startHeads first second) (a .ready), omega (arith, ap length wrote, files-marked file name first second before long z), a .entries)
 
     pub text-few : (c : Counts) → c ≡ countsOf (mergedItems first second) marks → Few (c .first) × Few (c .second)
     text-few c e = rw e (counts-few (mergedItems first second) marks (text-counts .2))
@@ -69,21 +70,21 @@ module _ (file name first second : List ℕ) (answer : AllMarked) (before marks 
     pub text-accepted : (c : Counts) → c ≡ countsOf (mergedItems first second) marks → countsLine c ≡ countedText file name first second
     unfolding countedText
     text-accepted c e =
-        let own = allMarks r (clustersOf r first second) in
+        let own = allMarks (basesOf r) (clustersOf (basesOf r) first second) in
         let accept = accepted-files file name first second z in
-        let same = counts-marks (mergedItems first second) own (drop (0 + length own) before) (omega (arith, marks-all r name first second (accept .0) (accept .1))) in
+        let same = counts-marks (mergedItems first second) own (drop (0 + length own) before) (omega (arith, marks-all (basesOf r) name first second (accept .0) (accept .1))) in
         ap countsLine (e ∙ ap (countsOf (mergedItems first second)) (wrote ∙ files-marks file name first second before long z) ∙ same)
-        ∙ sym (numbers-text (answer .number) (answer .list) (answer .line) (answer .place) (refusalOf file name first second) tells (countsLine (countsFor r first second)) zero)
+        ∙ sym (numbers-text (answer .number) (answer .list) (answer .line) (answer .place) (refusalOf file name first second) tells (countsLine (countsFor (basesOf r) first second)) zero)
 
 module _ (reference name first second : List ℕ) (plan : List Cluster) (marks : List ℕ) (z : allRefusal reference name first second (length plan) (length marks) .number ≡ 0) where
   -- the marks of all clusters, and the bytes that hold them
   abbrev these : List ℕ
-  these = allMarks reference (clustersOf reference first second)
+  these = allMarks (basesOf reference) (clustersOf (basesOf reference) first second)
 
   abbrev bytes : List ℕ
   bytes = allBytes reference name first second plan marks
 
-  pub counted-call : counted reference name first second (allBytes reference name first second plan marks) ≡ countedOf (answer 0 0 0 0 0) (countsFor reference first second)
+  pub counted-call : counted reference name first second (allBytes reference name first second plan marks) ≡ countedOf (answer 0 0 0 0 0) (countsFor (basesOf reference) first second)
   counted-call =
       let zero = count-marked reference name first second plan marks z .0 in
       let small = ltb (length bytes) leastRoom in
@@ -93,4 +94,4 @@ module _ (reference name first second : List ℕ) (plan : List Cluster) (marks :
       ∙ ap (λ (r : Refusal). countedOf (refusedAnswer r) (countsOf (mergedItems first second) bytes)) none
       ∙ ap (λ (ms : List ℕ). countedOf (answer 0 0 0 0 0) (countsOf (mergedItems first second) ms)) (all-given reference name first second plan marks z .2)
       ∙ ap (countedOf (answer 0 0 0 0 0))
-      (counts-marks (mergedItems first second) these (drop (0 + length these) marks) (omega (arith, marks-all reference name first second (read .0 .accepted) (read .1))))
+      (counts-marks (mergedItems first second) these (drop (0 + length these) marks) (omega (arith, marks-all (basesOf reference) name first second (read .0 .accepted) (read .1))))

@@ -7,7 +7,7 @@ use Prim.Native.Nat.{ℕ}
 use Prim.Native.String.{String}
 use lib.ListN.{replicate}
 use Rattle.bases.specs.First.{firstTold}
-use Rattle.bases.specs.Letter.{among?, letterOf, allLetters?}
+use Rattle.bases.specs.Letter.{letterAmong, letterOf, allLetters?}
 use Rattle.bases.specs.Period.{anyPeriod?}
 use Rattle.bases.specs.Same.{agree?}
 use Rattle.card.specs.Examples.{ascii, text, hom, snp}
@@ -42,6 +42,6 @@ pub examples :
     × Prints "GAC\n" (text (replicate 7 snp)) (text (replicate 6 snp)) "0\t0\t7\t0\t0\t6\n"
     × Prints "" [] [] "refused\t1\t0\t0\t0\n"
     × Prints "TGCCGT\n" (text (hom "2" "G" "C,C" ∷ [])) [] "refused\t23\t1\t3\t13\n"
-unfolding among? letterOf allLetters? anyPeriod? agree? allDigits? valueFrom isPos? copiesWrong? skip full? linesOf judgeLines judgeText until headerWrong? firstTold headerBytes entriesFrom
+unfolding letterAmong letterOf allLetters? anyPeriod? agree? allDigits? valueFrom isPos? copiesWrong? skip full? linesOf judgeLines judgeText until headerWrong? firstTold headerBytes entriesFrom
     digitsOf chain? edits donorFrom over first? better bestOver search score join every? allowed? bestOf weave merged rest plan recordsFrom howMany ownMarks countedText
 examples = (refl, refl, refl, refl)

@@ -3,12 +3,13 @@
 -- Assumes nothing: these are definitions.
 use mathlib.Core.List.{List}
 use Prim.Native.Nat.{ℕ, _*_}
+use Rattle.bases.specs.Letter.{basesOf}
 use Rattle.marks.specs.declared.count.Counts.{Counts}
 use Rattle.marks.specs.Counts.{countsOf}
 use Rattle.marks.specs.Marks.{clustersOf, allMarks}
 use Rattle.clusters.specs.Merged.{mergedItems}
 use Rattle.files.specs.declared.given.Given.{Given}
-use Rattle.files.specs.File.{basesOfFile}
+use Rattle.files.specs.File.{referenceIn}
 use Rattle.files.specs.Given.{nameIn, fileIn, firstIn, secondIn}
 use Rattle.lines.specs.Lines.{countsFields, fieldsMost}
 use Rattle.told.specs.Files.{refusalOf}
@@ -25,7 +26,8 @@ abbrev pub countsFor : List ℕ → List ℕ → List ℕ → Counts
 countsFor reference first second = countsOf (mergedItems first second) (allMarks reference (clustersOf reference first second))
 
 unfoldable pub countedText : List ℕ → List ℕ → List ℕ → List ℕ → List ℕ
-countedText file name first second = toldText (refusalOf file name first second) (countsLine (countsFor (basesOfFile file) first second))
+countedText file name first second = toldText (refusalOf file name first second)
+    (countsLine (countsFor (basesOf (referenceIn file)) first second))
 
 -- The same for what the program is given.
 abbrev pub countedIn : List ℕ → Given → List ℕ

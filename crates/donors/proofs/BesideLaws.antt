@@ -20,7 +20,6 @@ use native.Mathlib.Omega.{arith}
 use borrow.Author.Tests.{not-true, not-false}
 use lib.Dec.{eqb, ltb, ltb→lt, lt→ltb}
 use lib.ListN.{length}
-use Rattle.bases.specs.Letter.{basesOf}
 use Rattle.bases.specs.Pick.{pick}
 use Rattle.bases.specs.Same.{agree?, same?}
 use Rattle.bases.specs.Stretch.{stretch}
@@ -32,7 +31,7 @@ use Rattle.donors.specs.Apart.{Chain}
 use Rattle.donors.specs.Choice.{Copy, cardRules}
 use Rattle.donors.specs.Donor.{Edit, donor}
 use Rattle.donors.specs.Rules.{list1, list2, edits}
-use Rattle.donors.specs.Table.{rowAt, variantsFrom, choicesFrom, Sound}
+use Rattle.donors.specs.Table.{rowAt, basesFrom, variantsFrom, choicesFrom, Sound}
 use Rattle.donors.specs.Walk.{beginning, passed, withPiece, leftOf}
 use Rattle.donors.proofs.AlikeLaws.{same-pieces, same-rests, same-longer}
 use Rattle.donors.proofs.RowsLaws.{editsIn, edits-own}
@@ -60,10 +59,10 @@ pub record Onward (reference first second t φ : List ℕ) (h : Copy) (n : ℕ) 
 sound : (reference first second t : List ℕ) (n : ℕ) → Ready reference first second t n → (j : Bool) → SoundFor reference (pick j first second) t j n
 sound reference first second t n r j i l e = subst (λ (s : Bool). Sound reference (pick s first second) (rowAt t i)) e (r .sound i l)
 
--- a piece lies in one of two lists
-fits-pick : (t : Bool) (u v : List ℕ) (k : ℕ) → length u < k → length v < k → length (pick t u v) < k
-fits-pick true u v k a b = a
-fits-pick false u v k a b = b
+-- a piece lies in a text or on the reference
+fits-from : (reference text : List ℕ) (own : Bool) (w : ℕ) → length reference < w → length text < w → length (basesFrom reference text own) < w
+fits-from reference text true w r p = rw (bases-length text) p
+fits-from reference text false w r p = r
 
 module _ (reference first second t φ : List ℕ) (h : Copy) (n : ℕ) where
   -- a list's edits, with its own text
@@ -78,15 +77,15 @@ module _ {reference first second t φ : List ℕ} {h : Copy} {n : ℕ} where
   beside-start p = record {
     one = stands-start reference first second t φ h n p list1;
     two = stands-start reference first second t φ h n p list2;
-    same = ap₂ (λ (x y : List Edit). same? (donor (basesOf reference) x) (donor (basesOf reference) y))
+    same = ap₂ (λ (x y : List Edit). same? (donor reference x) (donor reference y))
         (own reference first second t φ h n list1) (own reference first second t φ h n list2);
   }
 
-  pub beside-next : {a b x y : Along} → Ready reference first second t n → Beside reference first second t φ h n a b
-      → x ≡ withPiece t φ list1 h n (length reference) a → y ≡ withPiece t φ list2 h n (length reference) b → Onward reference first second t φ h n a b x y
-  beside-next {a} {b} r w e f =
-      let u = subst (Goes reference first t φ list1 h n a) (sym e) (with-goes reference first t φ list1 h n (sound reference first second t n r list1) a (w .one)) in
-      let v = subst (Goes reference second t φ list2 h n b) (sym f) (with-goes reference second t φ list2 h n (sound reference first second t n r list2) b (w .two)) in
+  pub beside-next : {size : ℕ} {a b x y : Along} → size ≡ length reference → Ready reference first second t n → Beside reference first second t φ h n a b
+      → x ≡ withPiece t φ list1 h n size a → y ≡ withPiece t φ list2 h n size b → Onward reference first second t φ h n a b x y
+  beside-next {size} {a} {b} z r w e f =
+      let u = subst (Goes reference first t φ list1 h n a) (sym (rw z at e)) (with-goes reference first t φ list1 h n (sound reference first second t n r list1) a (w .one)) in
+      let v = subst (Goes reference second t φ list2 h n b) (sym (rw z at f)) (with-goes reference second t φ list2 h n (sound reference first second t n r list2) b (w .two)) in
       record {
         beside = record { one = u .ahead .stands; two = v .ahead .stands; same = w .same ∙ sym (ap₂ same? (u .left) (v .left)) };
         some1 = u .ahead .some;
@@ -109,7 +108,7 @@ module _ {reference first second t φ : List ℕ} {h : Copy} {n : ℕ} where
         let l = ltb→lt n (y .row) (z .1) in
         let u = one .last k in
         let v = two .last l in
-        let f = same-rests (basesOf reference) (x .at) (y .at) (omega (arith, bases-length reference)) (omega (arith, bases-length reference)) in
+        let f = same-rests reference (x .at) (y .at) (omega arith) (omega arith) in
         sym (o .beside .same ∙ ap₂ same? (left-last reference first t φ list1 h n x one k) (left-last reference second t φ list2 h n y two l) ∙ f)
 
     -- the next m bases of both
@@ -124,19 +123,19 @@ module _ {reference first second t φ : List ℕ} {h : Copy} {n : ℕ} where
           go (inr p) (inl q) f = omega (arith, left-none reference first t φ list1 h n x one p (omega arith), left-some reference second t φ list2 h n y two q)
           go (inr p) (inr q) f = of-false e (both (ltb n (x .row)) (ltb n (y .row)) .1 (lt→ltb n (x .row) p, lt→ltb n (y .row) q))
 
-      pub beside-inside : (x .at + m ≤ length (pick (x .text) first reference)) × (y .at + m ≤ length (pick (y .text) second reference))
+      pub beside-inside : (x .at + m ≤ length (basesFrom reference first (x .text))) × (y .at + m ≤ length (basesFrom reference second (y .text)))
       beside-inside = (omega (arith, one .inside), omega (arith, two .inside))
 
       pub beside-fits : (w : ℕ) → length reference < w → length first < w → length second < w → ((m ≤ x .len) × (x .at + m < w)) × ((m ≤ y .len) × (y .at + m < w))
       beside-fits w r p q =
-          let u = fits-pick (x .text) first reference w p r in
-          let v = fits-pick (y .text) second reference w q r in
+          let u = fits-from reference first (x .text) w r p in
+          let v = fits-from reference second (y .text) w r q in
           let i = beside-inside in
           ((omega arith, omega arith), (omega arith, omega arith))
 
       -- the lists have one donor exactly if those agree and what is left behind them is equal
       piece : oneDonor? reference first second t φ h n
-          ≡ agree? (stretch (basesOf (pick (x .text) first reference)) (x .at) m) (stretch (basesOf (pick (y .text) second reference)) (y .at) m)
+          ≡ agree? (stretch (basesFrom reference first (x .text)) (x .at) m) (stretch (basesFrom reference second (y .text)) (y .at) m)
           && same? (leftOf reference first t φ list1 h n (passed x m)) (leftOf reference second t φ list2 h n (passed y m))
       piece =
           let l : m ≤ x .len = omega arith in
@@ -146,14 +145,14 @@ module _ {reference first second t φ : List ℕ} {h : Copy} {n : ℕ} where
           ∙ same-pieces _ _ _ _ (piece-length reference first t φ list1 h n x one m l ∙ sym (piece-length reference second t φ list2 h n y two m r))
 
       pub beside-stop : {s : Bool}
-          → s ≡ agree? (stretch (basesOf (pick (x .text) first reference)) (x .at) m) (stretch (basesOf (pick (y .text) second reference)) (y .at) m)
+          → s ≡ agree? (stretch (basesFrom reference first (x .text)) (x .at) m) (stretch (basesFrom reference second (y .text)) (y .at) m)
           → not s ≡ true → oneDonor? reference first second t φ h n ≡ false
       beside-stop {s} u z = piece ∙ rw (sym u ∙ not-true s z)
 
       -- the walks behind them
       module _ {a′ b′ : Along} (e : a′ ≡ passed x m) (f : b′ ≡ passed y m) where
         pub beside-more : {s : Bool}
-            → s ≡ agree? (stretch (basesOf (pick (x .text) first reference)) (x .at) m) (stretch (basesOf (pick (y .text) second reference)) (y .at) m)
+            → s ≡ agree? (stretch (basesFrom reference first (x .text)) (x .at) m) (stretch (basesFrom reference second (y .text)) (y .at) m)
             → not s ≡ false → Beside reference first second t φ h n a′ b′
         beside-more {s} u z = rw (e, f) record {
           one = stands-passed reference first t φ list1 h n x one m (omega arith);

@@ -17,14 +17,13 @@ use Prim.Native.Nat.{ℕ, _+_, _≤_}
 use native.Mathlib.Omega.{arith}
 use borrow.Author.Tests.{eq-eqb, ne-eqb}
 use lib.Dec.{T, eqb}
-use Rattle.bases.specs.Letter.{basesOf}
 use Rattle.bases.specs.Pick.{pick}
 use Rattle.bases.proofs.TestLaws.{of-true, of-false}
 use Rattle.donors.specs.declared.table.Allele.{Allele}
 use Rattle.donors.specs.declared.table.Row.{Row}
 use Rattle.donors.specs.Choice.{Choice, plus, minus, out, chosen?, source, Copy, copy0, copy1, puts, cardRules}
 use Rattle.donors.specs.Rules.{takes?}
-use Rattle.donors.specs.Table.{width, numberAt, hasRoom?, alleleAt, rowAt, alleleBytes, variantOf, choiceOf, copyOf, alleleFor, alleleOf, placeFor, placeOf, roomAt?, rowTakes?}
+use Rattle.donors.specs.Table.{width, numberAt, hasRoom?, alleleAt, rowAt, alleleBases, variantOf, choiceOf, copyOf, alleleFor, alleleOf, placeFor, placeOf, roomAt?, rowTakes?}
 
 pub choice-plus : (b : ℕ) → b ≡ 43 → choiceOf b ≡ plus
 choice-plus b e = rw (eq-eqb _ _ e)
@@ -81,7 +80,7 @@ allele-numbers t i c h = allele-for t i (source c h)
 pub allele-room : (t : List ℕ) (i : ℕ) (c : Choice) (h : Copy) → chosen? c ≡ true → roomAt? (rowAt t i) c h ≡ hasRoom? (numberAt t i (placeOf c h))
 allele-room t i c h e = rw e (sym (ap (λ (a : Allele). a .room) (allele-numbers t i c h)))
 
-pub allele-puts : (reference text : List ℕ) (r : Row) (c : Choice) (h : Copy) → basesOf (alleleBytes reference text (alleleOf r c h)) ≡ puts (variantOf reference text r) c h
+pub allele-puts : (reference text : List ℕ) (r : Row) (c : Choice) (h : Copy) → alleleBases reference text (alleleOf r c h) ≡ puts (variantOf reference text r) c h
 allele-puts reference text r plus copy0 = refl
 allele-puts reference text r plus copy1 = refl
 allele-puts reference text r minus copy0 = refl

@@ -12,17 +12,15 @@ use native.Mathlib.Omega.{arith}
 use borrow.Author.Tests.{ltb-true, ltb-false, leb-true, leb-false, eqb-true, eqb-false}
 use lib.Dec.{eqb, leb, ltb}
 use lib.ListN.{length, getD}
-use Rattle.bases.specs.Letter.{basesOf}
 use Rattle.bases.specs.Pick.{pick}
 use Rattle.bases.specs.Stretch.{stretch}
-use Rattle.bases.proofs.LetterLaws.{bases-part}
 use Rattle.bases.proofs.TestLaws.{of-true}
 use Rattle.donors.specs.declared.table.Row.{Row}
 use Rattle.donors.specs.declared.walk.Along.{Along}
 use Rattle.donors.specs.Apart.{Chain}
 use Rattle.donors.specs.Choice.{Choice, plus, minus, out, Copy, copy0, copy1}
 use Rattle.donors.specs.Donor.{Edit, end, donorFrom}
-use Rattle.donors.specs.Table.{rowAt, choiceOf, alleleOf, roomAt?, Sound}
+use Rattle.donors.specs.Table.{rowAt, basesFrom, choiceOf, alleleOf, roomAt?, Sound}
 use Rattle.donors.specs.Walk.{takesRow?, nextRow, lastPiece, pieceBefore, pieceOf, nextPiece, withPiece, leftOf}
 use Rattle.donors.proofs.PartLaws.{rest-split}
 use Rattle.donors.proofs.NextLaws.{next-takes}
@@ -37,7 +35,7 @@ pub record Ahead (reference text t φ : List ℕ) (j : Bool) (h : Copy) (n : ℕ
 
 -- the row's allele lies in its source, and is not empty
 allele-inside : (reference text : List ℕ) (r : Row) (c : Choice) (h : Copy) → Sound reference text r
-    → (alleleOf r c h .at + alleleOf r c h .len ≤ length (pick (alleleOf r c h .text) text reference)) × (1 ≤ alleleOf r c h .len)
+    → (alleleOf r c h .at + alleleOf r c h .len ≤ length (basesFrom reference text (alleleOf r c h .text))) × (1 ≤ alleleOf r c h .len)
 allele-inside reference text r plus copy0 s = (s .zero, s .some0)
 allele-inside reference text r plus copy1 s = (s .one, s .some1)
 allele-inside reference text r minus copy0 s = (s .one, s .some1)
@@ -69,7 +67,7 @@ module _ (reference text t φ : List ℕ) (j : Bool) (h : Copy) (n : ℕ) where
 
   -- the next piece of a walk at place p before row i is x, with the same donor left
   record Leads (p i : ℕ) (x : Along) : Type 0 where
-    left : left x ≡ donorFrom (basesOf reference) p (rows i)
+    left : left x ≡ donorFrom reference p (rows i)
     ahead : Ahead reference text t φ j h n x
 
   last-leads : (p i : ℕ) → p ≤ length reference → n ≤ i → Leads p i (lastPiece t φ j h n (length reference) p)
@@ -77,7 +75,7 @@ module _ (reference text t φ : List ℕ) (j : Bool) (h : Copy) (n : ℕ) where
   last-leads p i k l = record {
     left =
         let z = edits-past reference text t φ j h (n + 1) n (omega arith) in
-        rw (z, edits-past reference text t φ j h i n l) (sym (rest-split (basesOf reference) p (length reference) k));
+        rw (z, edits-past reference text t φ j h i n l) (sym (rest-split reference p (length reference) k));
     ahead = record {
       stands = record {
         place = omega arith;
@@ -102,7 +100,7 @@ module _ (reference text t φ : List ℕ) (j : Bool) (h : Copy) (n : ℕ) where
 
     before-leads : p < rowAt t i .start → Leads p i (pieceBefore t φ j h n (length reference) p i)
     before-leads k = record {
-      left = rw taken (sym (donor-before (basesOf reference) p (editAt reference text t φ h i) (rows (i + 1))));
+      left = rw taken (sym (donor-before reference p (editAt reference text t φ h i) (rows (i + 1))));
       ahead = record {
         stands = record {
           place = omega (arith, sound .span);
@@ -117,11 +115,10 @@ module _ (reference text t φ : List ℕ) (j : Bool) (h : Copy) (n : ℕ) where
     of-leads : rowAt t i .start ≤ p → Leads p i (pieceOf t φ j h n (length reference) i)
     of-leads k = record {
       left =
-          let a = alleleOf (rowAt t i) (choiceOf (getD φ i 0)) h in
           let e = editAt reference text t φ h i in
-          let new = sym (allele-puts reference text (rowAt t i) (choiceOf (getD φ i 0)) h) ∙ bases-part (pick (a .text) text reference) (a .at) (a .len) in
-          sym (ap (donorFrom (basesOf reference) p) taken ∙ donor-next (basesOf reference) p e (rows (i + 1)) (omega arith)
-          ∙ ap (λ (x : List ℕ). x ++ donorFrom (basesOf reference) (end e) (rows (i + 1))) new);
+          let new = sym (allele-puts reference text (rowAt t i) (choiceOf (getD φ i 0)) h) in
+          sym (ap (donorFrom reference p) taken ∙ donor-next reference p e (rows (i + 1)) (omega arith)
+          ∙ ap (λ (x : List ℕ). x ++ donorFrom reference (end e) (rows (i + 1))) new);
       ahead = record {
         stands = record {
           place = sound .span;
@@ -153,9 +150,9 @@ module _ (reference text t φ : List ℕ) (j : Bool) (h : Copy) (n : ℕ) where
       let r = nextRow t φ j h (c .row) (n - c .row) in
       let x = edits-next reference text t φ j h (c .row) n in
       let y = piece-leads s (c .place) r (w .place) (subst (Chain (c .place)) x (w .chain)) (next-takes t φ j h n (c .row)) (leb n r) refl in
-      record { left = y .left ∙ ap (donorFrom (basesOf reference) (c .place)) (sym x); ahead = y .ahead }
+      record { left = y .left ∙ ap (donorFrom reference (c .place)) (sym x); ahead = y .ahead }
 
-  left-empty : (c : Along) → c .len ≡ 0 → left c ≡ donorFrom (basesOf reference) (c .place) (rows (c .row))
+  left-empty : (c : Along) → c .len ≡ 0 → left c ≡ donorFrom reference (c .place) (rows (c .row))
   left-empty c e = rw e
 
   -- The same donor is left, and the walk is ahead.

@@ -3,7 +3,6 @@
 use mathlib.Core.Bool.{Bool}
 use mathlib.Core.List.{List}
 use Prim.Native.Nat.{ℕ, _≤_, _<_}
-use Rattle.bases.specs.Letter.{basesOf}
 use Rattle.bases.specs.Pick.{pick}
 use Rattle.bases.specs.Same.{same?}
 use Rattle.donors.specs.Apart.{Chain}
@@ -24,7 +23,7 @@ ApartOn reference first second t φ h n = (j : Bool)
 -- The donor of list j on copy h, over the whole reference, with a table's entries and their choices.
 abbrev pub donorBy : (reference first second t φ : List ℕ) → Bool → Copy → ℕ → List ℕ
 donorBy reference first second t φ j h n =
-    donorOf cardRules (basesOf reference) j h (variantsFrom reference first second t 0 n) (choicesFrom φ 0 n)
+    donorOf cardRules reference j h (variantsFrom reference first second t 0 n) (choicesFrom φ 0 n)
 
 -- On copy h the two lists have one donor.
 abbrev pub oneDonor? : (reference first second t φ : List ℕ) → Copy → ℕ → Bool

@@ -6,9 +6,10 @@ use mathlib.Core.Bool.{Bool, Bool·beq, _&&_, _||_}
 use mathlib.Core.List.{List, [], _∷_}
 use Prim.Native.Nat.{ℕ, zero, suc, _+_, _*_, _≤_}
 use lib.Dec.{eqb, leb}
-use lib.ListN.{length, getD, take, drop}
+use lib.ListN.{length, getD}
 use Rattle.bases.specs.Letter.{basesOf}
 use Rattle.bases.specs.Pick.{pick}
+use Rattle.bases.specs.Stretch.{stretch}
 use Rattle.donors.specs.declared.table.Allele.{Allele}
 use Rattle.donors.specs.declared.table.Row.{Row}
 use Rattle.donors.specs.Choice.{Choice, plus, minus, out, Copy, copy0, copy1, Variant, chosen?, source}
@@ -52,9 +53,13 @@ rowAt t i = record {
   copy1 = alleleAt t i 7;
 }
 
--- The bytes of an allele.
-abbrev pub alleleBytes : List ℕ → List ℕ → Allele → List ℕ
-alleleBytes reference text a = take (a .len) (drop (a .at) (pick (a .text) text reference))
+-- What the bases of an allele are a stretch of: its list's text, or the reference, which is the list of its bases.
+abbrev pub basesFrom : List ℕ → List ℕ → Bool → List ℕ
+basesFrom reference text own = pick own (basesOf text) reference
+
+-- The bases of an allele.
+abbrev pub alleleBases : List ℕ → List ℕ → Allele → List ℕ
+alleleBases reference text a = stretch (basesFrom reference text (a .text)) (a .at) (a .len)
 
 -- The entry of a row, as matching reads it, with the text of its list.
 abbrev pub variantOf : List ℕ → List ℕ → Row → Variant
@@ -64,9 +69,9 @@ variantOf reference text r = record {
   len = r .len;
   weight = r .weight;
   room0 = r .copy0 .room;
-  allele0 = basesOf (alleleBytes reference text (r .copy0));
+  allele0 = alleleBases reference text (r .copy0);
   room1 = r .copy1 .room;
-  allele1 = basesOf (alleleBytes reference text (r .copy1));
+  allele1 = alleleBases reference text (r .copy1);
 }
 
 -- The entries of the n rows from row i on, each with the text of its list.
@@ -119,7 +124,7 @@ rowTakes? r c j h = Bool·beq j (r .first) && roomAt? r c h
 -- A row's span lies on the reference, and its alleles, none of which is empty, in its list's text or on the reference.
 pub record Sound (reference text : List ℕ) (r : Row) : Type 0 where
   pub span : r .start + r .len ≤ length reference
-  pub zero : r .copy0 .at + r .copy0 .len ≤ length (pick (r .copy0 .text) text reference)
-  pub one : r .copy1 .at + r .copy1 .len ≤ length (pick (r .copy1 .text) text reference)
+  pub zero : r .copy0 .at + r .copy0 .len ≤ length (basesFrom reference text (r .copy0 .text))
+  pub one : r .copy1 .at + r .copy1 .len ≤ length (basesFrom reference text (r .copy1 .text))
   pub some0 : 1 ≤ r .copy0 .len
   pub some1 : 1 ≤ r .copy1 .len

@@ -5,14 +5,13 @@ use mathlib.Core.List.{List, _++_}
 use Prim.Native.Nat.{ℕ, zero, suc, _+_, _-_}
 use lib.Dec.{eqb, leb, ltb}
 use lib.ListN.{getD}
-use Rattle.bases.specs.Letter.{basesOf}
 use Rattle.bases.specs.Pick.{pick}
 use Rattle.bases.specs.Stretch.{stretch}
 use Rattle.donors.specs.declared.walk.Along.{Along}
 use Rattle.donors.specs.Choice.{Copy, cardRules}
 use Rattle.donors.specs.Donor.{donorFrom}
 use Rattle.donors.specs.Rules.{edits}
-use Rattle.donors.specs.Table.{rowAt, variantsIn, choiceOf, choicesFrom, alleleOf, rowTakes?}
+use Rattle.donors.specs.Table.{rowAt, basesFrom, variantsIn, choiceOf, choicesFrom, alleleOf, rowTakes?}
 
 -- At the reference's start, before every row, with nothing of a piece left.
 abbrev pub beginning : Along
@@ -64,6 +63,6 @@ module _ (t φ : List ℕ) (j : Bool) (h : Copy) (n size : ℕ) where
 -- The donor that is left: what is left of the piece, and the donor from the place behind it on, with the rows that are left.
 abbrev pub leftOf : (reference text t φ : List ℕ) → Bool → Copy → ℕ → Along → List ℕ
 leftOf reference text t φ j h n c =
-    stretch (basesOf (pick (c .text) text reference)) (c .at) (c .len)
-    ++ donorFrom (basesOf reference) (c .place)
+    stretch (basesFrom reference text (c .text)) (c .at) (c .len)
+    ++ donorFrom reference (c .place)
     (edits cardRules j h (variantsIn reference text t (c .row) (n - c .row)) (choicesFrom φ (c .row) (n - c .row)))

@@ -3,19 +3,19 @@ ghost use mathlib.Core.Path.{_≡_};
 ghost use Prim.Native.Nat.{_+_, _≤_, min};
 ghost use lib.ListN.{length};
 ghost use Rattle.bases.specs.Letter.{basesOf};
-ghost use Rattle.bases.specs.Pick.{pick};
 ghost use Rattle.bases.specs.Same.{agree?};
 ghost use Rattle.bases.specs.Stretch.{stretch};
 ghost use Rattle.donors.specs.Agree.{Ready, ApartOn, oneDonor?};
-ghost use Rattle.donors.specs.Table.{copyOf};
+ghost use Rattle.donors.specs.Table.{basesFrom, copyOf};
 use crate::table::MOST;
 use crate::table::TABLE;
 use crate::walk::Along;
 use crate::walk::past;
 use crate::walk::with_piece;
-use bases::stretch::part_agrees;
-use bases::stretch::parts_agree;
-use bases::stretch::stretches_agree;
+use bases::reference::base_count;
+use bases::reference::part_agrees;
+use bases::reference::stretches_agree;
+use bases::same::parts_agree;
 
 // The smaller of two lengths.
 fn shorter(a: usize, b: usize) -> usize
@@ -30,12 +30,12 @@ fn shorter(a: usize, b: usize) -> usize
 // Are the next m bases of a piece of list 1's donor those of a piece of list 2's?
 fn pieces_agree(reference: &[u8], first: &[u8], second: &[u8], a: Along, b: Along, m: usize) -> bool
     requires { ⌜
-        (a .at + m ≤ length (pick (a .text) (now first) (now reference)))
-        × (b .at + m ≤ length (pick (b .text) (now second) (now reference)))
+        (a .at + m ≤ length (basesFrom (basesOf (now reference)) (now first) (a .text)))
+        × (b .at + m ≤ length (basesFrom (basesOf (now reference)) (now second) (b .text)))
         ⌝ }
     ensures { λ r. ⌜
-        r ≡ agree? (stretch (basesOf (pick (a .text) (now (first .entry)) (now (reference .entry)))) (a .at) m)
-        (stretch (basesOf (pick (b .text) (now (second .entry)) (now (reference .entry)))) (b .at) m)
+        r ≡ agree? (stretch (basesFrom (basesOf (now (reference .entry))) (now (first .entry)) (a .text)) (a .at) m)
+        (stretch (basesFrom (basesOf (now (reference .entry))) (now (second .entry)) (b .text)) (b .at) m)
         ⌝ }
 {
     if a.text {
@@ -62,14 +62,15 @@ pub fn donors_agree(
     copy: usize,
 ) -> bool
     requires { ⌜
-        Ready (now reference) (now first) (now second) (now table) n
-        × ApartOn (now reference) (now first) (now second) (now table) (now choices) (copyOf copy) n
+        Ready (basesOf (now reference)) (now first) (now second) (now table) n
+        × ApartOn (basesOf (now reference)) (now first) (now second) (now table) (now choices) (copyOf copy) n
         ⌝ }
     ensures { λ r. ⌜
-        r ≡ oneDonor? (now (reference .entry)) (now (first .entry)) (now (second .entry)) (now (table .entry)) (now (choices .entry))
-        (copyOf copy) n
+        r ≡ oneDonor? (basesOf (now (reference .entry))) (now (first .entry)) (now (second .entry)) (now (table .entry))
+        (now (choices .entry)) (copyOf copy) n
         ⌝ }
 {
+    let size = base_count(reference);
     let mut a = Along {
         row: 0,
         place: 0,
@@ -85,8 +86,8 @@ pub fn donors_agree(
         len: 0,
     };
     loop {
-        let x = with_piece(reference.len(), table, n, choices, true, copy, a);
-        let y = with_piece(reference.len(), table, n, choices, false, copy, b);
+        let x = with_piece(size, table, n, choices, true, copy, a);
+        let y = with_piece(size, table, n, choices, false, copy, b);
         if (n < x.row) & (n < y.row) {
             return x.at == y.at;
         }

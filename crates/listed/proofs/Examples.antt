@@ -6,7 +6,7 @@ use mathlib.Core.Path.{_≡_, refl}
 use Prim.Native.Nat.{ℕ, _+_}
 use lib.ListN.{length}
 use Rattle.bases.specs.Place.{placeOf}
-use Rattle.bases.specs.Letter.{among?, letterOf}
+use Rattle.bases.specs.Letter.{letterAmong, letterOf}
 use Rattle.bases.specs.Period.{anyPeriod?}
 use Rattle.bases.specs.Same.{agree?}
 use Rattle.donors.specs.Apart.{All}
@@ -76,7 +76,7 @@ table =
     ∷ []
 
 pub examples : All (λ (r : Row). recordsFrom 0 (cardPlan (r .reference) (merged (λ (x : Variant). x .start) (r .first) (r .second))) ≡ r .plan) table
-unfolding among? letterOf anyPeriod? agree? weave merged rest plan recordsFrom
+unfolding letterAmong letterOf anyPeriod? agree? weave merged rest plan recordsFrom
 examples = (refl, (refl, (refl, (refl, tt))))
 
 -- An entry, whose own numbers do not matter here, of each list.

@@ -6,6 +6,7 @@ use contract.Lifetimes.{Lfts}
 use denote.Ref.{now}
 use denote.Triple.Entry.{Args, Res}
 use denote.Triple.Clauses.{AtExit}
+use Rattle.bases.specs.Letter.{basesOf}
 use Rattle.bases.specs.Put.{put}
 use Rattle.clusters.proofs.LentDetermines.{Relation, States}
 use Rattle.listed.specs.Listed.{listedOf}
@@ -13,8 +14,8 @@ use Rattle.listed.proofs.listed.fill_entries as fill-entries
 
 abbrev pub Listed : Relation fill-entries.ended
 Listed κs a z e =
-    (z ≡ length (listedOf (now (a .0)) (now (a .1 .0)) (now (a .1 .1 .0))))
-    × (now (e .1 .1 .1 .0) ≡ put (now (a .1 .1 .1 .0)) 0 (listedOf (now (a .0)) (now (a .1 .0)) (now (a .1 .1 .0))))
+    (z ≡ length (listedOf (basesOf (now (a .0))) (now (a .1 .0)) (now (a .1 .1 .0))))
+    × (now (e .1 .1 .1 .0) ≡ put (now (a .1 .1 .1 .0)) 0 (listedOf (basesOf (now (a .0))) (now (a .1 .0)) (now (a .1 .1 .0))))
 
 pub fill-entries-states : States fill-entries.ended (λ M 𝓤 H. fill-entries.clauses 𝓤 H) Listed
 fill-entries-states M 𝓤 H A mem run κs a g z e = refl

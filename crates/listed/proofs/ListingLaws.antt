@@ -14,7 +14,6 @@ use mathlib.Core.Path.{_≡_, refl, sym, ap, _∙_}
 use Prim.Native.Nat.{ℕ, zero, suc, _+_, _-_, _≤_, _<_, _^_}
 use native.Mathlib.Omega.{arith}
 use lib.ListN.{length}
-use Rattle.bases.specs.Letter.{basesOf}
 use Rattle.bases.proofs.TestLaws.{of-false}
 use Rattle.vcf.proofs.AboveLaws.{above-few}
 use Rattle.clusters.specs.declared.gap.Current.{Current}
@@ -67,7 +66,7 @@ module _ (reference first second : List ℕ) where
       where
         go : (t : Bool) → cutAt? reference first second s ≡ t → (b : ℕ) → s .begun ≡ b → 1 ≤ s .begun + one t
         go true e b f = omega arith
-        go false e zero f = absurd (of-false (sym (cut-nothing (basesOf reference) (itemSize (nextItem first second (s .heads)) .start)) ∙ rw (g .none f) at e) tt)
+        go false e zero f = absurd (of-false (sym (cut-nothing reference (itemSize (nextItem first second (s .heads)) .start)) ∙ rw (g .none f) at e) tt)
         go false e (suc b) f = omega arith
 
     pub begun-made : (b : ℕ) → b ≡ one (cutAt? reference first second s) → 1 ≤ s .begun + b
@@ -119,7 +118,7 @@ module _ (reference first second : List ℕ) where
           }
 
       pub listing-made : (i : Item) (z : Size) (cut : Bool) (b : ℕ) (l : Listed) (h : Heads) (n : Nexts) (c : Current)
-          → i ≡ next → z ≡ itemSize i → cut ≡ cut? (basesOf reference) (s .current) (z .start) → b ≡ s .begun + one cut
+          → i ≡ next → z ≡ itemSize i → cut ≡ cut? reference (s .current) (z .start) → b ≡ s .begun + one cut
           → l ≡ listedAs (s .nexts) (i .side) (b - 1) → h ≡ moved first second (s .heads) (i .side) → n ≡ nextsAfter (s .nexts) (i .side) → c ≡ grown (s .current) z cut
           → record { more = true; listed = l; behind = record { heads = h; nexts = n; current = c; begun = b } } ≡ listingFrom reference first second s
       listing-made i z cut b l h n c ei ez et eb el eh en ec = rw (e, el, eh, en, ec, eb, et, ez, ei)

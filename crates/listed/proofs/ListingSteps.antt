@@ -33,6 +33,7 @@ use denote.Steps.{owned}
 use denote.Struct.Laws as LL
 use denote.Triple.Spec.{tripleOf}
 use denote.Triple.Statement.{Contract, Triple}
+use Rattle.bases.specs.Letter.{basesOf}
 use Rattle.listed.specs.declared.listed.Listed.{Listed}
 use Rattle.listed.specs.declared.listed.Listing.{Listing}
 use Rattle.clusters.specs.Heads.{Ready, startHeads}
@@ -77,26 +78,26 @@ module _ {M : Type 1} (𝓤 : URA M) (H : Heap 𝓤) (A : Atoms 𝓤) (mem : Mem
 
 module _ (xs : Refs) where
   abbrev pub P : List Listed
-  P = listedOf (xs .0 .now) (xs .1 .0 .now) (xs .1 .1 .0 .now)
+  P = listedOf (basesOf (xs .0 .now)) (xs .1 .0 .now) (xs .1 .1 .0 .now)
 
   abbrev pub Asked : ℕ → Type 0
-  Asked m = Ready (xs .0 .now) (xs .1 .0 .now) (xs .1 .1 .0 .now) (startHeads (xs .1 .0 .now) (xs .1 .1 .0 .now)) × (length (mergedItems (xs .1 .0 .now) (xs .1 .1 .0 .now)) ≤ m)
+  Asked m = Ready (basesOf (xs .0 .now)) (xs .1 .0 .now) (xs .1 .1 .0 .now) (startHeads (xs .1 .0 .now) (xs .1 .1 .0 .now)) × (length (mergedItems (xs .1 .0 .now) (xs .1 .1 .0 .now)) ≤ m)
 
   pub room : (m : ℕ) → Asked m → length P ≤ m
-  room m asked = omega (arith, asked .1, listed-length (xs .0 .now) (xs .1 .0 .now) (xs .1 .1 .0 .now))
+  room m asked = omega (arith, asked .1, listed-length (basesOf (xs .0 .now)) (xs .1 .0 .now) (xs .1 .1 .0 .now))
 
   abbrev pub step-at : ℕ → Listing
-  step-at k = listingAt (xs .0 .now) (xs .1 .0 .now) (xs .1 .1 .0 .now) k
+  step-at k = listingAt (basesOf (xs .0 .now)) (xs .1 .0 .now) (xs .1 .1 .0 .now) k
 
   abbrev pub Good : ℕ → Type 0
   Good k = Is S (step-at k) (Listing″.lowered (step-at k) ∷ [])
 
   -- each step that there is a record for, and the one behind the last
-  pub stands : {m : ℕ} (k : ℕ) → Asked m → k < length P → ListedAt (xs .0 .now) (xs .1 .0 .now) (xs .1 .1 .0 .now) (getD P k none) (step-at k)
-  stands k asked less = listing-stands (xs .0 .now) (xs .1 .0 .now) (xs .1 .1 .0 .now) (asked .0) k none less
+  pub stands : {m : ℕ} (k : ℕ) → Asked m → k < length P → ListedAt (basesOf (xs .0 .now)) (xs .1 .0 .now) (xs .1 .1 .0 .now) (getD P k none) (step-at k)
+  stands k asked less = listing-stands (basesOf (xs .0 .now)) (xs .1 .0 .now) (xs .1 .1 .0 .now) (asked .0) k none less
 
   pub over : {m : ℕ} (k : ℕ) → Asked m → k ≡ length P → step-at k .more ≡ false
-  over k asked e = listing-ends (xs .0 .now) (xs .1 .0 .now) (xs .1 .1 .0 .now) (asked .0) k e
+  over k asked e = listing-ends (basesOf (xs .0 .now)) (xs .1 .0 .now) (xs .1 .1 .0 .now) (asked .0) k e
 
 module _ {M : Type 1} (𝓤 : URA M) (H : Heap 𝓤) (A : Atoms 𝓤) (mem : Memory → SProp 𝓤) (run : Routine → Fun 𝓤) (κs : Lfts 3) (qs : Shares 3) (xs : Refs) where
   -- what the two calls are passed
@@ -115,8 +116,8 @@ module _ {M : Type 1} (𝓤 : URA M) (H : Heap 𝓤) (A : Atoms 𝓤) (W : Given
   begins t known m asked opds k =
       move t (1 ∷ []) $ use1 W (‵ (texts κs xs) ⊛ ‵ (texts κs xs)) (texts-twice 𝓤 H A W κs xs) $ split t $ move t (2 ∷ 0 ∷ []) $
       tells t (fmOf 𝓤 H (W .laws) 𝓣) first-listing.ended (first-listing.clauses 𝓤 H A mem run) known (to-first 𝓤 H A mem run κs qs xs) (factI 𝓤 _ _ (asked .0))
-      (λ (w : Listing). Listing″.lowered w) (Listing″.lowers .val-is) (firstListing (xs .0 .now) (xs .1 .0 .now) (xs .1 .1 .0 .now)) (λ r ws. refl)
-      (step-at xs 0) (listing-start (xs .0 .now) (xs .1 .0 .now) (xs .1 .1 .0 .now)) opds
+      (λ (w : Listing). Listing″.lowered w) (Listing″.lowers .val-is) (firstListing (basesOf (xs .0 .now)) (xs .1 .0 .now) (xs .1 .1 .0 .now)) (λ r ws. refl)
+      (step-at xs 0) (listing-start (basesOf (xs .0 .now)) (xs .1 .0 .now) (xs .1 .1 .0 .now)) opds
       (λ is. k (LL.lawful Listing′.the-type Listing″.the-laws 𝓤 H A W .typed (step-at xs 0) _ is .0) is)
 
   pub goes-on : K → Triple 𝓤 (𝓣 .C next-listing-key) (Next 𝓤 H A mem run) → (m : ℕ) → Asked xs m → (i : ℕ) → i < length (P xs) → Good xs i
@@ -132,6 +133,6 @@ module _ {M : Type 1} (𝓤 : URA M) (H : Heap 𝓤) (A : Atoms 𝓤) (W : Given
       (last-in 𝓤 H A W S w (Listing″.lowered w ∷ []) (Texts κs) xs (vals xs))
       $ move t (2 ∷ 0 ∷ []) $
       tells t (fmOf 𝓤 H (W .laws) 𝓣) next-listing.ended (next-listing.clauses 𝓤 H A mem run) known (to-next 𝓤 H A mem run κs qs xs w) (factI 𝓤 _ _ (s .good))
-      (λ (w : Listing). Listing″.lowered w) (Listing″.lowers .val-is) (nextListing (xs .0 .now) (xs .1 .0 .now) (xs .1 .1 .0 .now) w) (λ r ws. refl)
-      (step-at xs (i + 1)) (listing-next (xs .0 .now) (xs .1 .0 .now) (xs .1 .1 .0 .now) i) opds
+      (λ (w : Listing). Listing″.lowered w) (Listing″.lowers .val-is) (nextListing (basesOf (xs .0 .now)) (xs .1 .0 .now) (xs .1 .1 .0 .now) w) (λ r ws. refl)
+      (step-at xs (i + 1)) (listing-next (basesOf (xs .0 .now)) (xs .1 .0 .now) (xs .1 .1 .0 .now) i) opds
       (λ is. k (LL.lawful Listing′.the-type Listing″.the-laws 𝓤 H A W .typed (step-at xs (i + 1)) _ is .0) is)

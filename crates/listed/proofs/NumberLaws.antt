@@ -15,7 +15,6 @@ use borrow.Author.Tests.{le-leb}
 use lib.ListN.{length, getD, replicate, length-append, length-replicate, getD-replicate, List·getD-append}
 use lib.Seq.{getD-append-add}
 use Rattle.bases.specs.declared.place.Place.{Place}
-use Rattle.bases.specs.Letter.{basesOf}
 use Rattle.donors.specs.Choice.{cardRules}
 use Rattle.donors.specs.Rules.{Rules}
 use Rattle.clusters.specs.declared.gap.Current.{Current}
@@ -95,7 +94,7 @@ module _ {X C H : Type 0} (𝓡 : Rules X C H) (R : List ℕ) where
 pub numbers-all : (reference first second : List ℕ) → length (numbersFrom 0 (planOf reference first second)) ≡ length (mergedItems first second)
 numbers-all reference first second =
     let xs = mergedVariants reference first second in
-    ap length (numbers-plan cardRules (basesOf reference) xs) ∙ numbers-length cardRules (basesOf reference) nothing 0 xs
+    ap length (numbers-plan cardRules reference xs) ∙ numbers-length cardRules reference nothing 0 xs
     ∙ map-length (variant reference first second) (mergedItems first second)
 
 -- Number m, of the plan's records rs, has entry e.

@@ -13,7 +13,6 @@ use mathlib.Core.List.{List, [], _∷_}
 use mathlib.Core.Path.{_≡_, refl, ap, ap₂, _∙_}
 use Prim.Native.Nat.{ℕ, _+_, _-_, _<_}
 use lib.ListN.{length, getD}
-use Rattle.bases.specs.Letter.{basesOf}
 use Rattle.bases.proofs.TestLaws.{of-true, of-false}
 use Rattle.donors.specs.Choice.{Variant, cardRules}
 use Rattle.clusters.specs.declared.gap.Current.{Current}
@@ -46,11 +45,11 @@ listed-step R n c b i is x xs z e = rw (← e)
 module _ (reference first second : List ℕ) where
   abbrev pub listedOn : Stand → List Listed
   listedOn s =
-      listedFrom (s .nexts) (numbersOn cardRules (basesOf reference) (s .current) (s .begun) (variantsFrom reference first second (s .heads))) (itemsFrom first second (s .heads))
+      listedFrom (s .nexts) (numbersOn cardRules reference (s .current) (s .begun) (variantsFrom reference first second (s .heads))) (itemsFrom first second (s .heads))
 
   pub listed-start : listedOf reference first second ≡ listedOn (startStand first second)
   listed-start =
-      ap (λ (ks : List ℕ). listedFrom (firstNexts first second) ks (mergedItems first second)) (numbers-plan cardRules (basesOf reference) (mergedVariants reference first second))
+      ap (λ (ks : List ℕ). listedFrom (firstNexts first second) ks (mergedItems first second)) (numbers-plan cardRules reference (mergedVariants reference first second))
 
   module _ (s : Stand) where
     pub listed-none : done? first second (s .heads) ≡ true → listedOn s ≡ []
@@ -62,9 +61,9 @@ module _ (reference first second : List ℕ) where
         let i = nextItem first second (s .heads) in
         let b = moved first second (s .heads) (i .side) in
         let z = item-size reference first second i (next-sound reference first second (s .heads) (g .ready) e) in
-        ap₂ (λ (xs : List Variant) (is : List Item). listedFrom (s .nexts) (numbersOn cardRules (basesOf reference) (s .current) (s .begun) xs) is)
+        ap₂ (λ (xs : List Variant) (is : List Item). listedFrom (s .nexts) (numbersOn cardRules reference (s .current) (s .begun) xs) is)
         (variants-step reference first second (s .heads) e) (items-step first second (s .heads) e .split)
-        ∙ listed-step (basesOf reference) (s .nexts) (s .current) (s .begun) i (itemsFrom first second b) (variant reference first second i) (variantsFrom reference first second b) (itemSize i) z
+        ∙ listed-step reference (s .nexts) (s .current) (s .begun) i (itemsFrom first second b) (variant reference first second i) (variantsFrom reference first second b) (itemSize i) z
 
   pub listing-none : (s : Stand) → Going reference first second s → listingFrom reference first second s .more ≡ false → listedOn s ≡ []
   listing-none s g e = go (done? first second (s .heads)) refl

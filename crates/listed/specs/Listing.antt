@@ -6,7 +6,6 @@ use mathlib.Core.List.{List}
 use mathlib.Core.Path.{_≡_}
 use Prim.Native.Nat.{ℕ, _+_, _-_, _≤_}
 use lib.ListN.{length}
-use Rattle.bases.specs.Letter.{basesOf}
 use Rattle.bases.specs.Pick.{pick}
 use Rattle.clusters.specs.declared.gap.Current.{Current}
 use Rattle.clusters.specs.declared.gap.Size.{Size}
@@ -50,7 +49,7 @@ module _ (reference first second : List ℕ) where
 
   -- Does a cluster begin with the next entry?
   abbrev pub cutAt? : Stand → Bool
-  cutAt? s = cut? (basesOf reference) (s .current) (itemSize (nextItem first second (s .heads)) .start)
+  cutAt? s = cut? reference (s .current) (itemSize (nextItem first second (s .heads)) .start)
 
   -- How many clusters have begun with it, the last of which is its own.
   abbrev pub begunAt : Stand → ℕ

@@ -3,6 +3,7 @@
 ghost use mathlib.Core.Path.{_≡_};
 ghost use Prim.Native.Nat.{_+_, _≤_, _<_, _^_};
 ghost use lib.ListN.{length};
+ghost use Rattle.bases.specs.Letter.{basesOf};
 ghost use Rattle.bases.specs.Put.{put};
 ghost use Rattle.vcf.specs.List.{longestText};
 ghost use Rattle.marks.specs.Counts.{one};
@@ -182,8 +183,8 @@ fn grown(current: Current, size: Size, cut: bool) -> Current
 
 // The step where the walk stands. Where no entry is left, it stays.
 fn listing_from(reference: &[u8], first: &[u8], second: &[u8], stand: Stand) -> Listing
-    requires { ⌜ Going (now reference) (now first) (now second) stand ⌝ }
-    ensures { λ r. ⌜ r ≡ listingFrom (now (reference .entry)) (now (first .entry)) (now (second .entry)) stand ⌝ }
+    requires { ⌜ Going (basesOf (now reference)) (now first) (now second) stand ⌝ }
+    ensures { λ r. ⌜ r ≡ listingFrom (basesOf (now (reference .entry))) (now (first .entry)) (now (second .entry)) stand ⌝ }
 {
     let heads = stand.heads;
     if is_done(first, second, heads) {
@@ -218,8 +219,8 @@ fn listing_from(reference: &[u8], first: &[u8], second: &[u8], stand: Stand) -> 
 
 // The first step.
 pub fn first_listing(reference: &[u8], first: &[u8], second: &[u8]) -> Listing
-    requires { ⌜ Ready (now reference) (now first) (now second) (startHeads (now first) (now second)) ⌝ }
-    ensures { λ r. ⌜ r ≡ firstListing (now (reference .entry)) (now (first .entry)) (now (second .entry)) ⌝ }
+    requires { ⌜ Ready (basesOf (now reference)) (now first) (now second) (startHeads (now first) (now second)) ⌝ }
+    ensures { λ r. ⌜ r ≡ firstListing (basesOf (now (reference .entry))) (now (first .entry)) (now (second .entry)) ⌝ }
 {
     let stand = start_stand(first, second);
     listing_from(reference, first, second, stand)
@@ -227,8 +228,8 @@ pub fn first_listing(reference: &[u8], first: &[u8], second: &[u8]) -> Listing
 
 // The step behind one.
 pub fn next_listing(reference: &[u8], first: &[u8], second: &[u8], listing: Listing) -> Listing
-    requires { ⌜ Going (now reference) (now first) (now second) (listing .behind) ⌝ }
-    ensures { λ r. ⌜ r ≡ nextListing (now (reference .entry)) (now (first .entry)) (now (second .entry)) listing ⌝ }
+    requires { ⌜ Going (basesOf (now reference)) (now first) (now second) (listing .behind) ⌝ }
+    ensures { λ r. ⌜ r ≡ nextListing (basesOf (now (reference .entry))) (now (first .entry)) (now (second .entry)) listing ⌝ }
 {
     let stand = listing.behind;
     listing_from(reference, first, second, stand)
@@ -238,13 +239,13 @@ pub fn next_listing(reference: &[u8], first: &[u8], second: &[u8], listing: List
 // records changes.
 pub fn fill_entries(reference: &[u8], first: &[u8], second: &[u8], entries: &mut [Listed]) -> usize
     requires { ⌜
-        Ready (now reference) (now first) (now second) (startHeads (now first) (now second))
+        Ready (basesOf (now reference)) (now first) (now second) (startHeads (now first) (now second))
         × (length (mergedItems (now first) (now second)) ≤ length (now entries))
         ⌝ }
     ensures { λ r. ⌜
-        (r ≡ length (listedOf (now (reference .entry)) (now (first .entry)) (now (second .entry))))
+        (r ≡ length (listedOf (basesOf (now (reference .entry))) (now (first .entry)) (now (second .entry))))
         × (now (entries .exit)
-        ≡ put (now (entries .entry)) 0 (listedOf (now (reference .entry)) (now (first .entry)) (now (second .entry))))
+        ≡ put (now (entries .entry)) 0 (listedOf (basesOf (now (reference .entry))) (now (first .entry)) (now (second .entry))))
         ⌝ }
 {
     let mut listing = first_listing(reference, first, second);

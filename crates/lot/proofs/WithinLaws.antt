@@ -14,6 +14,7 @@ use native.Mathlib.Omega.{arith}
 use borrow.Author.Tests.{eqb-true, ne-eqb}
 use lib.Dec.{eqb, ltb}
 use lib.ListN.{length}
+use Rattle.bases.specs.Letter.{basesOf}
 use Rattle.bases.specs.Pick.{pick}
 use Rattle.card.specs.declared.refusal.Refusal.{Refusal}
 use Rattle.card.specs.Answer.{refusedAnswer}
@@ -86,8 +87,8 @@ module _ (reference name first second marks : List ℕ) where
           let r = lists-read reference name first (ltb (length marks) leastRoom) second (eqb-true (refused .number) 0 e) in
           let w = lists-within (entriesOf first) (entriesOf second) marks in
           within-small (runOf (countedOf (refusedAnswer refused) counts))
-          (omega (arith, w .0, accepted-few reference name first (r .0 .accepted)))
-          (omega (arith, w .1, accepted-few reference name second (r .1)))
+          (omega (arith, w .0, accepted-few (basesOf reference) name first (r .0 .accepted)))
+          (omega (arith, w .1, accepted-few (basesOf reference) name second (r .1)))
       go false e = refl
 
 pub runs-within : (cs : List Control) → anyLarge? (runsOf cs) ≡ false

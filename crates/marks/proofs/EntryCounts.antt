@@ -13,7 +13,6 @@ use native.Mathlib.Omega.{arith}
 use borrow.Author.Tests.{ne-eqb}
 use lib.Dec.{T}
 use lib.ListN.{length, take, replicate}
-use Rattle.bases.specs.Letter.{basesOf}
 use Rattle.bases.specs.Pick.{pick}
 use Rattle.donors.specs.Apart.{All}
 use Rattle.donors.specs.Choice.{Choice, plus, minus, out, Variant}
@@ -52,8 +51,8 @@ unfolding join
 all-marked reference [] = tt
 all-marked reference (c ∷ cs) = marked-append (marksOf reference c) (allMarks reference cs) (go (decided? c)) (all-marked reference cs)
   where
-    go : (t : Bool) → Marked (pick t (map byteOf (cardBest (basesOf reference) c)) (replicate (length c) QUESTION))
-    go true = marked-bytes (cardBest (basesOf reference) c)
+    go : (t : Bool) → Marked (pick t (map byteOf (cardBest reference c)) (replicate (length c) QUESTION))
+    go true = marked-bytes (cardBest reference c)
     go false = marked-question (length c)
 
 -- A mark is counted once.

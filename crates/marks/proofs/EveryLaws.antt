@@ -13,7 +13,6 @@ use mathlib.Core.Path.{_≡_, refl, sym, ap, _∙_}
 use Prim.Native.Nat.{ℕ, _+_, _≤_, _<_}
 use native.Mathlib.Omega.{arith}
 use lib.ListN.{length, take}
-use Rattle.bases.specs.Letter.{basesOf}
 use Rattle.bases.specs.Put.{put}
 use Rattle.bases.proofs.PutLaws.{put-length, put-none, put-put}
 use Rattle.donors.specs.Choice.{Variant, cardRules}
@@ -39,7 +38,7 @@ module _ (reference first second : List ℕ) (h : Heads) where
   pub next-cluster : done? first second h ≡ false → clustersFrom reference first second h ≡ cluster ∷ behind
   next-cluster d =
       next-plan reference first second h d
-      ∙ ap (λ (c : List Variant). c ∷ behind) (first-take cardRules (basesOf reference) (variantsFrom reference first second h))
+      ∙ ap (λ (c : List Variant). c ∷ behind) (first-take cardRules reference (variantsFrom reference first second h))
 
   score-done : done? first second h ≡ true → totalScore reference (clustersFrom reference first second h) ≡ 0
   unfolding totalScore

@@ -15,7 +15,6 @@ use native.Mathlib.Omega.{arith}
 use borrow.Author.Tests.{le-leb, lt-leb}
 use lib.ListN.{length, take, replicate, length-replicate}
 use lib.Seq.{length-take-le, take-at}
-use Rattle.bases.specs.Letter.{basesOf}
 use Rattle.bases.specs.Pick.{pick}
 use Rattle.bases.specs.Put.{put}
 use Rattle.donors.specs.Agree as agree
@@ -61,15 +60,15 @@ module _ (reference : List ℕ) (c : List Variant) where
   pub marks-length : length (marksOf reference c) ≡ length c
   marks-length = go (decided? c)
     where
-      go : (t : Bool) → length (pick t (map byteOf (cardBest (basesOf reference) c)) (replicate (length c) QUESTION)) ≡ length c
-      go true = map-length byteOf (cardBest (basesOf reference) c) ∙ best-long (basesOf reference) c
+      go : (t : Bool) → length (pick t (map byteOf (cardBest reference c)) (replicate (length c) QUESTION)) ≡ length c
+      go true = map-length byteOf (cardBest reference c) ∙ best-long reference c
       go false = length-replicate (length c) QUESTION
 
   pub score-few : All Plain c → scoreOf reference c ≤ length c
   score-few a = go (decided? c)
     where
-      go : (t : Bool) → pick t (score cardScoring c (cardBest (basesOf reference) c)) 0 ≤ length c
-      go true = chosen-few c (cardBest (basesOf reference) c) a
+      go : (t : Bool) → pick t (score cardScoring c (cardBest reference c)) 0 ≤ length c
+      go true = chosen-few c (cardBest reference c) a
       go false = omega arith
 
   pub marks-many : most < length c
@@ -81,9 +80,9 @@ module _ (reference : List ℕ) (c : List Variant) where
   unfolding arrayOf
   choices-first φ n e = take-at (map byteOf φ) _ n (map-length byteOf φ ∙ e)
 
-  pub marks-few : length c ≤ most → let b = bestAnswer (basesOf reference) c in
+  pub marks-few : length c ≤ most → let b = bestAnswer reference c in
       (markedOf reference c ≡ record { found = true; decided = true; score = b .score }) × (marksOf reference c ≡ take (length c) (b .choices))
-  marks-few h = rw (le-leb (length c) most h) (refl, sym (choices-first (cardBest (basesOf reference) c) (length c) (best-long (basesOf reference) c)))
+  marks-few h = rw (le-leb (length c) most h) (refl, sym (choices-first (cardBest reference c) (length c) (best-long reference c)))
 
 module _ (reference first second : List ℕ) (h : Heads) (n : ℕ) (there : n ≤ length (itemsFrom first second h)) where
   -- the next n entries
@@ -126,7 +125,7 @@ module _ (reference first second : List ℕ) (h : Heads) (n : ℕ) (there : n �
         (sym (k .0), w ∙ ap (put d at) (sym (k .1 ∙ ap (λ (m : ℕ). replicate m QUESTION) next-long)))
 
     pub next-decided : n ≤ most → (t u : List ℕ) → u ≡ put t 0 (tableOf (take n (itemsFrom first second h)))
-        → (b : Best) → b ≡ bestAnswer (basesOf reference) (table.variantsFrom reference first second u 0 n) → e ≡ put d at (take n (b .choices))
+        → (b : Best) → b ≡ bestAnswer reference (table.variantsFrom reference first second u 0 n) → e ≡ put d at (take n (b .choices))
         → (record { found = true; decided = true; score = b .score } ≡ markedOf reference (take n (variantsFrom reference first second h)))
         × (e ≡ put d at (marksOf reference (take n (variantsFrom reference first second h))))
     next-decided few t u eu b eb w =
@@ -137,8 +136,8 @@ module _ (reference first second : List ℕ) (h : Heads) (n : ℕ) (there : n �
         ∙ ap (λ (m : ℕ). table.variantsFrom reference first second (put t 0 (tableOf next)) 0 m) (sym long)
         ∙ table-variants reference first second t next
         ∙ sym next-variants in
-        let best : b ≡ bestAnswer (basesOf reference) xs = eb ∙ ap (bestAnswer (basesOf reference)) same in
+        let best : b ≡ bestAnswer reference xs = eb ∙ ap (bestAnswer reference) same in
         let k = marks-few reference xs (omega (arith, next-long)) in (
           ap (λ (a : Best). record { found = true; decided = true; score = a .score }) best ∙ sym (k .0),
-          w ∙ ap (λ (a : Best). put d at (take n (a .choices))) best ∙ ap (put d at) (sym (k .1 ∙ ap (λ (m : ℕ). take m (bestAnswer (basesOf reference) xs .choices)) next-long)),
+          w ∙ ap (λ (a : Best). put d at (take n (a .choices))) best ∙ ap (put d at) (sym (k .1 ∙ ap (λ (m : ℕ). take m (bestAnswer reference xs .choices)) next-long)),
         )

@@ -9,7 +9,7 @@
 -- Assumes nothing.
 use mathlib.Core.Bool.{Bool, true, false}
 use mathlib.Core.List.{List, [], _∷_}
-use mathlib.Core.Path.{_≡_, refl, ap}
+use mathlib.Core.Path.{_≡_, refl, sym, ap}
 use Prim.Native.Nat.{ℕ, zero, suc, _+_, _-_, _≤_}
 use native.Mathlib.Omega.{arith}
 use lib.ListN.{length, drop, length-take, length-drop}
@@ -18,10 +18,10 @@ use Rattle.bases.specs.declared.place.Place.{Place}
 use Rattle.bases.specs.Letter.{basesOf}
 use Rattle.bases.specs.Place.{placeOf}
 use Rattle.bases.specs.Reference.{longestReference}
-use Rattle.bases.proofs.LetterLaws.{bases-length}
+use Rattle.bases.proofs.LetterLaws.{bases-length, bases-part}
 use Rattle.donors.specs.declared.table.Allele.{Allele}
 use Rattle.donors.specs.declared.table.Row.{Row}
-use Rattle.donors.specs.Table.{alleleBytes, variantOf, Sound}
+use Rattle.donors.specs.Table.{basesFrom, alleleBases, variantOf, Sound}
 use Rattle.vcf.specs.declared.entry.Entry.{Entry}
 use Rattle.vcf.specs.declared.entry.Part.{Part}
 use Rattle.vcf.specs.Entry.{bytesOf}
@@ -57,10 +57,10 @@ pub numbers-are : (r : Row) {list start len weight kind0 at0 len0 kind1 at1 len1
 numbers-are r e0 e1 e2 e3 e4 e5 e6 e7 e8 e9 = cc
 
 -- the bases that stand where a row says are the allele's
-stand-bases : (reference text : List ℕ) (e : Entry) (k : ℕ) → basesOf (alleleBytes reference text (standOf e k)) ≡ alleleOf reference text e k
+stand-bases : (reference text : List ℕ) (e : Entry) (k : ℕ) → alleleBases reference text (standOf e k) ≡ alleleOf reference text e k
 stand-bases reference text e zero = refl
-stand-bases reference text e (suc zero) = refl
-stand-bases reference text e (suc (suc k)) = refl
+stand-bases reference text e (suc zero) = sym (bases-part text (e .first .at) (e .first .len))
+stand-bases reference text e (suc (suc k)) = sym (bases-part text (e .second .at) (e .second .len))
 
 stand-room : (e : Entry) (k : ℕ) → standOf e k .room ≡ true
 stand-room e zero = refl
@@ -72,12 +72,12 @@ text-is true first second = refl
 text-is false first second = refl
 
 -- a part that is not empty and as long as it says ends within
-part-within : (t : List ℕ) (p : Part) → length (basesOf (bytesOf t p)) ≡ p .len → 1 ≤ p .len → p .at + p .len ≤ length t
-part-within t p e h = omega (arith, bases-length (bytesOf t p), length-take (p .len) (drop (p .at) t), length-drop (p .at) t)
+part-within : (t : List ℕ) (p : Part) → length (basesOf (bytesOf t p)) ≡ p .len → 1 ≤ p .len → p .at + p .len ≤ length (basesOf t)
+part-within t p e h = omega (arith, bases-length t, bases-length (bytesOf t p), length-take (p .len) (drop (p .at) t), length-drop (p .at) t)
 
 stand-within : (reference text : List ℕ) (e : Entry) (k : ℕ) → startOf e .0 + e .reference .len ≤ length reference
     → length (alleleOf reference text e k) ≡ lenOf e k → 1 ≤ lenOf e k
-    → standOf e k .at + standOf e k .len ≤ length (pick (standOf e k .text) text reference)
+    → standOf e k .at + standOf e k .len ≤ length (basesFrom reference text (standOf e k .text))
 stand-within reference text e zero w l s = w
 stand-within reference text e (suc zero) w l s = part-within text (e .first) l s
 stand-within reference text e (suc (suc k)) w l s = part-within text (e .second) l s
@@ -87,9 +87,9 @@ stand-len e zero = refl
 stand-len e (suc zero) = refl
 stand-len e (suc (suc k)) = refl
 
-pick-short : (b : Bool) (text reference : List ℕ) → length text ≤ longestText → length reference ≤ longestReference → length (pick b text reference) ≤ longestText
-pick-short true text reference h l = h
-pick-short false text reference h l = omega arith
+from-short : (b : Bool) (text reference : List ℕ) → length text ≤ longestText → length reference ≤ longestReference → length (basesFrom reference text b) ≤ longestText
+from-short true text reference h l = omega (arith, bases-length text)
+from-short false text reference h l = omega arith
 
 text-short : (b : Bool) (first second : List ℕ) → length first ≤ longestText → length second ≤ longestText → length (textOf b first second) ≤ longestText
 text-short true first second h l = h
@@ -105,7 +105,7 @@ module _ (reference first second : List ℕ) (i : Item) where
   module _ (s : SoundItem reference first second i) where
     -- each allele ends within what it stands in
     abbrev Ends : ℕ → Type 0
-    Ends k = let a = standOf (i .entry) k in a .at + a .len ≤ length (pick (a .text) (textOf (i .side) first second) reference)
+    Ends k = let a = standOf (i .entry) k in a .at + a .len ≤ length (basesFrom reference (textOf (i .side) first second) (a .text))
 
     zero-ends : Ends (i .entry .copy0)
     zero-ends = stand-within reference (textOf (i .side) first second) (i .entry) (i .entry .copy0) (s .within) (s .long0) (s .some0)
@@ -129,8 +129,8 @@ module _ (reference first second : List ℕ) (i : Item) where
         let e = i .entry in
         let t = textOf (i .side) first second in
         let u = text-short (i .side) first second short1 short2 in
-        let p0 = pick-short (standOf e (e .copy0) .text) t reference u short in
-        let p1 = pick-short (standOf e (e .copy1) .text) t reference u short in (
+        let p0 = from-short (standOf e (e .copy0) .text) t reference u short in
+        let p1 = from-short (standOf e (e .copy1) .text) t reference u short in (
           s .pos,
           record {
             start = omega (arith, s .within);

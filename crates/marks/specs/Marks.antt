@@ -5,7 +5,6 @@ use mathlib.Core.List.{List, [], _∷_, map}
 use Prim.Native.Nat.{ℕ, _+_}
 use lib.Dec.{leb, ltb}
 use lib.ListN.{length, getD, take, replicate}
-use Rattle.bases.specs.Letter.{basesOf}
 use Rattle.bases.specs.Pick.{pick}
 use Rattle.bases.specs.Put.{put}
 use Rattle.donors.specs.Choice.{Variant}
@@ -30,11 +29,11 @@ decided? c = leb (length c) most
 
 -- The marks of a cluster's entries: the choices of its best pair, or `?` for each.
 abbrev pub marksOf : List ℕ → List Variant → List ℕ
-marksOf reference c = pick (decided? c) (map byteOf (cardBest (basesOf reference) c)) (replicate (length c) QUESTION)
+marksOf reference c = pick (decided? c) (map byteOf (cardBest reference c)) (replicate (length c) QUESTION)
 
 -- The score of a cluster: that of its best pair; none where it is undecided.
 abbrev pub scoreOf : List ℕ → List Variant → ℕ
-scoreOf reference c = pick (decided? c) (score cardScoring c (cardBest (basesOf reference) c)) 0
+scoreOf reference c = pick (decided? c) (score cardScoring c (cardBest reference c)) 0
 
 -- What is told of a cluster that was marked; and where there is no such cluster.
 abbrev pub markedOf : List ℕ → List Variant → Marked

@@ -2,6 +2,7 @@
 ghost use mathlib.Core.Path.{_≡_};
 ghost use Prim.Native.Nat.{_+_, _≤_};
 ghost use lib.ListN.{length, take, replicate};
+ghost use Rattle.bases.specs.Letter.{basesOf};
 ghost use Rattle.bases.specs.Put.{put};
 ghost use Rattle.bases.specs.Reference.{longestReference};
 ghost use Rattle.donors.specs.Table.{most};
@@ -66,18 +67,18 @@ fn mark_cluster(
     at: usize,
 ) -> Marked
     requires { ⌜
-        Markable (now reference) (now first) (now second) heads
+        Markable (basesOf (now reference)) (now first) (now second) heads
         × (1 ≤ count)
         × (count ≤ length (itemsFrom (now first) (now second) heads))
         × (at + count ≤ length (now marks))
         ⌝ }
     ensures { λ r. ⌜
-        (r ≡ markedOf (now (reference .entry))
-        (take count (variantsFrom (now (reference .entry)) (now (first .entry)) (now (second .entry)) heads)))
+        (r ≡ markedOf (basesOf (now (reference .entry)))
+        (take count (variantsFrom (basesOf (now (reference .entry))) (now (first .entry)) (now (second .entry)) heads)))
         × (now (marks .exit)
         ≡ put (now (marks .entry))
-        at (marksOf (now (reference .entry))
-        (take count (variantsFrom (now (reference .entry)) (now (first .entry)) (now (second .entry)) heads))))
+        at (marksOf (basesOf (now (reference .entry)))
+        (take count (variantsFrom (basesOf (now (reference .entry))) (now (first .entry)) (now (second .entry)) heads))))
         ⌝ }
 {
     if MOST < count {
@@ -109,14 +110,16 @@ fn mark_from(
     marks: &mut [u8],
 ) -> usize
     requires { ⌜
-        Markable (now reference) (now first) (now second) from
+        Markable (basesOf (now reference)) (now first) (now second) from
         × (length (itemsFrom (now first) (now second) from) ≤ length (now marks))
         ⌝ }
     ensures { λ r. ⌜
-        (r ≡ totalScore (now (reference .entry)) (clustersFrom (now (reference .entry)) (now (first .entry)) (now (second .entry)) from))
+        (r ≡ totalScore (basesOf (now (reference .entry)))
+        (clustersFrom (basesOf (now (reference .entry))) (now (first .entry)) (now (second .entry)) from))
         × (now (marks .exit)
         ≡ put (now (marks .entry)) 0
-        (allMarks (now (reference .entry)) (clustersFrom (now (reference .entry)) (now (first .entry)) (now (second .entry)) from)))
+        (allMarks (basesOf (now (reference .entry)))
+        (clustersFrom (basesOf (now (reference .entry))) (now (first .entry)) (now (second .entry)) from)))
         ⌝ }
 {
     let mut heads = from;
@@ -144,15 +147,17 @@ fn mark_from(
 // Marks every entry of two accepted lists, and sums the score over the decided clusters.
 pub fn mark_every(reference: &[u8], first: &[u8], second: &[u8], marks: &mut [u8]) -> usize
     requires { ⌜
-        Ready (now reference) (now first) (now second) (startHeads (now first) (now second))
-        × (length (now reference) ≤ longestReference)
+        Ready (basesOf (now reference)) (now first) (now second) (startHeads (now first) (now second))
+        × (length (basesOf (now reference)) ≤ longestReference)
         × (length (mergedItems (now first) (now second)) ≤ length (now marks))
         ⌝ }
     ensures { λ r. ⌜
-        (r ≡ totalScore (now (reference .entry)) (clustersOf (now (reference .entry)) (now (first .entry)) (now (second .entry))))
+        (r ≡ totalScore (basesOf (now (reference .entry)))
+        (clustersOf (basesOf (now (reference .entry))) (now (first .entry)) (now (second .entry))))
         × (now (marks .exit)
         ≡ put (now (marks .entry)) 0
-        (allMarks (now (reference .entry)) (clustersOf (now (reference .entry)) (now (first .entry)) (now (second .entry)))))
+        (allMarks (basesOf (now (reference .entry)))
+        (clustersOf (basesOf (now (reference .entry))) (now (first .entry)) (now (second .entry)))))
         ⌝ }
 {
     let heads = start_heads(first, second);
@@ -169,14 +174,16 @@ pub fn mark_one(
     marks: &mut [u8],
 ) -> Marked
     requires { ⌜
-        Ready (now reference) (now first) (now second) (startHeads (now first) (now second))
-        × (length (now reference) ≤ longestReference)
+        Ready (basesOf (now reference)) (now first) (now second) (startHeads (now first) (now second))
+        × (length (basesOf (now reference)) ≤ longestReference)
         × (length (mergedItems (now first) (now second)) ≤ length (now marks))
         ⌝ }
     ensures { λ r. ⌜
-        (r ≡ askedFor (now (reference .entry)) (clustersOf (now (reference .entry)) (now (first .entry)) (now (second .entry))) cluster)
+        (r ≡ askedFor (basesOf (now (reference .entry)))
+        (clustersOf (basesOf (now (reference .entry))) (now (first .entry)) (now (second .entry))) cluster)
         × (now (marks .exit)
-        ≡ marksAfter (now (reference .entry)) (clustersOf (now (reference .entry)) (now (first .entry)) (now (second .entry))) cluster
+        ≡ marksAfter (basesOf (now (reference .entry)))
+        (clustersOf (basesOf (now (reference .entry))) (now (first .entry)) (now (second .entry))) cluster
         (now (marks .entry)))
         ⌝ }
 {

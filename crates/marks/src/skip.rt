@@ -1,5 +1,6 @@
 // Past the first clusters of two lists.
 ghost use mathlib.Core.Path.{_≡_};
+ghost use Rattle.bases.specs.Letter.{basesOf};
 ghost use Rattle.clusters.specs.Heads.{Ready, startHeads};
 ghost use Rattle.marks.specs.Skip.{skipClusters};
 use clusters::cluster::next_cluster;
@@ -15,9 +16,9 @@ pub struct Skipped {
 
 // Behind the first k clusters of two lists; where there are fewer, behind the last.
 pub fn skip_clusters(reference: &[u8], first: &[u8], second: &[u8], k: usize) -> Skipped
-    requires { ⌜ Ready (now reference) (now first) (now second) (startHeads (now first) (now second)) ⌝ }
+    requires { ⌜ Ready (basesOf (now reference)) (now first) (now second) (startHeads (now first) (now second)) ⌝ }
     ensures { λ r. ⌜
-        r ≡ skipClusters (now (reference .entry)) (now (first .entry)) (now (second .entry)) k
+        r ≡ skipClusters (basesOf (now (reference .entry))) (now (first .entry)) (now (second .entry)) k
         (startHeads (now (first .entry)) (now (second .entry))) 0
         ⌝ }
 {

@@ -8,7 +8,6 @@ use mathlib.Core.Path.{_≡_, sym, ap, _∙_, subst}
 use Prim.Native.Nat.{ℕ, _-_}
 use native.Mathlib.Omega.{arith}
 use lib.ListN.{length, replicate}
-use Rattle.bases.specs.Letter.{basesOf}
 use Rattle.donors.specs.Apart.{All}
 use Rattle.donors.specs.Choice.{Choice, Variant, Plain, cardRules}
 use Rattle.donors.specs.Items.{Sorted, Solid}
@@ -48,8 +47,8 @@ module _ (reference first second t : List ℕ) (n : ℕ) where
   made-start top e = rw (start, e, weights-rows reference first second t n) (made-none all)
 
   pub search-start : (best : Best) → best ≡ nothingFound
-      → improved best (answerFrom (basesOf reference) all n (choicesFrom (replicate most 48) 0 (n - n))) ≡ bestAnswer (basesOf reference) all
+      → improved best (answerFrom reference all n (choicesFrom (replicate most 48) 0 (n - n))) ≡ bestAnswer reference all
   search-start best e =
-      rw (e, start) (nothing-improved all (cardSearch (basesOf reference) all n [])
-      ∙ ap (λ (k : ℕ). answerFrom (basesOf reference) all k []) (sym (entries-length reference first second t 0 n))
-      ∙ ap (answerOf all) (search-any cardRules cardScoring (basesOf reference) all cardFinite (keep? cardRules cardFinite all) (legal-keeps cardRules cardFinite (basesOf reference) all)))
+      rw (e, start) (nothing-improved all (cardSearch reference all n [])
+      ∙ ap (λ (k : ℕ). answerFrom reference all k []) (sym (entries-length reference first second t 0 n))
+      ∙ ap (answerOf all) (search-any cardRules cardScoring reference all cardFinite (keep? cardRules cardFinite all) (legal-keeps cardRules cardFinite reference all)))

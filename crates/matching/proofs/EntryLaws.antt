@@ -12,7 +12,6 @@ use native.Mathlib.Nat.{zero-add}
 use native.Mathlib.Omega.{arith}
 use borrow.Author.Tests.{eq-eqb}
 use lib.ListN.{length}
-use Rattle.bases.specs.Letter.{basesOf}
 use Rattle.bases.proofs.TestLaws.{is-true}
 use Rattle.bases.specs.Pick.{pick}
 use Rattle.donors.specs.Agree.{oneDonor?}
@@ -51,7 +50,7 @@ module _ (reference first second t : List ℕ) where
 
   module _ (choices : List ℕ) (n : ℕ) (k : Kept (entries 0 n) (choicesFrom choices 0 n)) where
     legal-donors : (u v : Bool) → oneDonor? reference first second t choices copy0 n ≡ u → oneDonor? reference first second t choices copy1 n ≡ v
-        → cardLegal? (basesOf reference) (entries 0 n) (choicesFrom choices 0 n) ≡ u && (v && true)
+        → cardLegal? reference (entries 0 n) (choicesFrom choices 0 n) ≡ u && (v && true)
     unfolding every?
     legal-donors u v e f =
         rw (
@@ -62,7 +61,7 @@ module _ (reference first second t : List ℕ) where
           f,
         )
 
-    pub legal-not : (h : Copy) → oneDonor? reference first second t choices h n ≡ false → cardLegal? (basesOf reference) (entries 0 n) (choicesFrom choices 0 n) ≡ false
+    pub legal-not : (h : Copy) → oneDonor? reference first second t choices h n ≡ false → cardLegal? reference (entries 0 n) (choicesFrom choices 0 n) ≡ false
     legal-not copy0 e = legal-donors false _ e refl
     legal-not copy1 e = legal-donors _ false refl e ∙ go (oneDonor? reference first second t choices copy0 n)
       where
@@ -71,5 +70,5 @@ module _ (reference first second t : List ℕ) where
         go false = refl
 
     pub legal-all : oneDonor? reference first second t choices copy0 n ≡ true → oneDonor? reference first second t choices copy1 n ≡ true
-        → cardLegal? (basesOf reference) (entries 0 n) (choicesFrom choices 0 n) ≡ true
+        → cardLegal? reference (entries 0 n) (choicesFrom choices 0 n) ≡ true
     legal-all e f = legal-donors true true e f

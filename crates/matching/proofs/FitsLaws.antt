@@ -103,7 +103,8 @@ module _ (reference first second t : List ℕ) where
         rw (end-reached j h n) (sym (ap₂ (λ (xs : List Variant) (ψ : List Choice). reached 0 (edits cardRules j h xs ψ)) (row-last n) (choices-last φ n)
         ∙ ap (reached 0) (edits-one (rows n) x [] (choicesFrom φ 0 n) (as-many n) j h c)
         ∙ reached-put (takes? cardRules j h x c) (made j h n) (editOf cardRules x c h)
-        ∙ ap (λ (b : Bool). pick b (end (editOf cardRules x c h)) (reached 0 (made j h n))) (row-takes reference _ (rowAt t n) c j h)))
+        ∙ ap (λ (b : Bool). pick b (end (editOf cardRules x c h)) (reached 0 (made j h n)))
+        (row-takes reference (pick (rowAt t n .first) first second) (rowAt t n) c j h)))
 
     -- row n is the next of the rows, and the choices before it are kept
     module _ (m n : ℕ) (l : n < m) (k : Kept (rows m) (choicesFrom φ 0 n)) (c : Choice) where

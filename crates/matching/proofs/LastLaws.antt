@@ -10,7 +10,6 @@ use Prim.Native.Nat.{ℕ, _-_, _≤_}
 use native.Mathlib.Omega.{arith}
 use lib.Dec.{T}
 use lib.ListN.{length, drop, drop-of-length-le}
-use Rattle.bases.specs.Letter.{basesOf}
 use Rattle.donors.specs.Agree.{ApartOn, oneDonor?}
 use Rattle.donors.specs.Choice.{Choice, Copy, copy0, copy1, Variant}
 use Rattle.donors.specs.Table.{choicesFrom}
@@ -35,7 +34,7 @@ module _ {reference first second t choices : List ℕ} {top n left : ℕ} (m : C
   φ = choicesFrom choices 0 (n - left)
 
   abbrev answer : Best
-  answer = answerFrom (basesOf reference) all left φ
+  answer = answerFrom reference all left φ
 
   whole : n - left ≡ n
   whole = omega arith
@@ -46,10 +45,10 @@ module _ {reference first second t choices : List ℕ} {top n left : ℕ} (m : C
   pub made-apart : (h : Copy) → ApartOn reference first second t choices h n
   made-apart h j = keep-words all (choicesFrom choices 0 n) .0 made-all j h
 
-  stop : (u : Bool) → cardLegal? (basesOf reference) all (choicesFrom choices 0 n) ≡ u → answer ≡ answerOf all (cond u (some φ) none)
+  stop : (u : Bool) → cardLegal? reference all (choicesFrom choices 0 n) ≡ u → answer ≡ answerOf all (cond u (some φ) none)
   stop u h =
-      ap (λ (k : ℕ). answerFrom (basesOf reference) all k φ) none-left ∙ ap (answerOf all) (search-stop (basesOf reference) all φ)
-      ∙ ap (λ (v : Bool). answerOf all (cond v (some φ) none)) (ap (λ (k : ℕ). cardLegal? (basesOf reference) all (choicesFrom choices 0 k)) whole ∙ h)
+      ap (λ (k : ℕ). answerFrom reference all k φ) none-left ∙ ap (answerOf all) (search-stop reference all φ)
+      ∙ ap (λ (v : Bool). answerOf all (cond v (some φ) none)) (ap (λ (k : ℕ). cardLegal? reference all (choicesFrom choices 0 k)) whole ∙ h)
 
   counted : top ≡ score cardScoring all φ
   unfolding weights

@@ -15,7 +15,6 @@ use Prim.Native.Nat.{ℕ, suc, _+_, _-_, _≤_}
 use native.Mathlib.Omega.{arith}
 use lib.Dec.{T}
 use lib.ListN.{length, set, length-append}
-use Rattle.bases.specs.Letter.{basesOf}
 use Rattle.bases.proofs.TestLaws.{of-true, both, is-true}
 use Rattle.donors.specs.Choice.{Choice, plus, minus, out, Variant, chosen?, cardRules}
 use Rattle.donors.specs.Table.{rowAt, choicesFrom}
@@ -46,7 +45,7 @@ module _ {reference first second t choices : List ℕ} {top n left : ℕ} (m : C
 
   -- the answer that goes on from the choices made
   abbrev answer : Best
-  answer = answerFrom (basesOf reference) all left φ
+  answer = answerFrom reference all left φ
 
   abbrev more : Choice → List Choice
   more c = φ ++ (c ∷ [])
@@ -95,13 +94,13 @@ module _ {reference first second t choices : List ℕ} {top n left : ℕ} (m : C
 
   -- the answer below a choice
   abbrev answer-below : Choice → Best
-  answer-below c = below (basesOf reference) all (left - 1) φ c
+  answer-below c = below reference all (left - 1) φ c
 
   abbrev pub Went : Choice → Best → List ℕ → Best → Type 0
   Went c best now r = (now ≡ choices) × (r ≡ improved best (answer-below c))
 
   low : (c : Choice) (s : ℕ) (best : Best) (now : List ℕ) → Made all (more c) now s → canBeat? s best ≡ false → best ≡ improved best (answer-below c)
-  low c s best now k f = sym (improved-low s best (answer-below c) f (omega (arith, k .counted, below-most (basesOf reference) all (left - 1) φ c)))
+  low c s best now k f = sym (improved-low s best (answer-below c) f (omega (arith, k .counted, below-most reference all (left - 1) φ c)))
 
   -- the array as it stands now, and the entry chosen
   module _ (now : List ℕ) (same : now ≡ choices) (c : Choice) (u : T (chosen? c)) where
@@ -113,18 +112,18 @@ module _ {reference first second t choices : List ℕ} {top n left : ℕ} (m : C
     made-taken f v = let g : fits? t choices (n - left) c ≡ true = rw same at (sym f ∙ v) in rw (same, taken-reads c u g) (taken c u g)
 
     pub went-taken : {v : Bool} → v ≡ fits? t now (n - left) c → v ≡ true → (best r : Best) (then : List ℕ)
-        → r ≡ improved best (answerFrom (basesOf reference) all (left - 1) (choicesFrom (set now (n - left) (byteOf c)) 0 (n - (left - 1))))
+        → r ≡ improved best (answerFrom reference all (left - 1) (choicesFrom (set now (n - left) (byteOf c)) 0 (n - (left - 1))))
         → then ≡ set (set now (n - left) (byteOf c)) (n - left) 48 → Went c best then r
     went-taken f v best r then e d =
         let g : fits? t choices (n - left) c ≡ true = rw same at (sym f ∙ v) in (
           d ∙ rw same (made-back all φ choices top (byteOf c) (n - left) (m .made) many (omega arith)),
-          e ∙ rw (same, taken-reads c u g) (ap (improved best) (sym (below-kept (basesOf reference) all (left - 1) φ c (fitting c true g)))),
+          e ∙ rw (same, taken-reads c u g) (ap (improved best) (sym (below-kept reference all (left - 1) φ c (fitting c true g)))),
         )
 
     -- it is not tried, and all stays as it was
     module _ (best r : Best) (then : List ℕ) (e : r ≡ best) (d : then ≡ now) where
       pub went-unfit : {v : Bool} → v ≡ fits? t now (n - left) c → v ≡ false → Went c best then r
-      went-unfit f v = (d ∙ same, e ∙ sym (ap (improved best) (below-dropped (basesOf reference) all (left - 1) φ c (fitting c false (rw same at (sym f ∙ v))))))
+      went-unfit f v = (d ∙ same, e ∙ sym (ap (improved best) (below-dropped reference all (left - 1) φ c (fitting c false (rw same at (sym f ∙ v))))))
 
       pub went-untried : {v : Bool} → v ≡ canBeat? top best && fits? t now (n - left) c → v ≡ false → Went c best then r
       went-untried f v = go (canBeat? top best) (fits? t now (n - left) c) refl refl (sym f ∙ v)
@@ -143,8 +142,8 @@ module _ {reference first second t choices : List ℕ} {top n left : ℕ} (m : C
       pub made-skipped : Made all (choicesFrom now 0 (n - (left - 1))) now (top - w)
       made-skipped = rw (same, is, skipped-reads) skipped
 
-      pub went-skipped : (best r : Best) → r ≡ improved best (answerFrom (basesOf reference) all (left - 1) (choicesFrom now 0 (n - (left - 1)))) → Went out best now r
-      went-skipped best r e = (same, e ∙ rw (same, skipped-reads) (ap (improved best) (sym (below-kept (basesOf reference) all (left - 1) φ out (fitting out true refl)))))
+      pub went-skipped : (best r : Best) → r ≡ improved best (answerFrom reference all (left - 1) (choicesFrom now 0 (n - (left - 1)))) → Went out best now r
+      went-skipped best r e = (same, e ∙ rw (same, skipped-reads) (ap (improved best) (sym (below-kept reference all (left - 1) φ out (fitting out true refl)))))
 
       pub went-unskipped : (best : Best) {v : Bool} → v ≡ canBeat? (top - w) best → v ≡ false → Went out best now best
       went-unskipped best f v = (same, low out (top - rowAt t (n - left) .weight) best choices skipped (rw is at (sym f ∙ v)))
@@ -152,4 +151,4 @@ module _ {reference first second t choices : List ℕ} {top n left : ℕ} (m : C
   pub search-went : (b0 b1 b2 b3 : Best) (c1 c2 c3 : List ℕ) → Went plus b0 c1 b1 → Went minus b1 c2 b2 → Went out b2 c3 b3 → b3 ≡ improved b0 answer
   search-went b0 b1 b2 b3 c1 c2 c3 w1 w2 w3 =
       let k : suc (left - 1) ≡ left = omega arith in
-      w3 .1 ∙ rw (w2 .1, w1 .1) (sym (search-three (basesOf reference) all (left - 1) φ b0)) ∙ ap (λ (k : ℕ). improved b0 (answerFrom (basesOf reference) all k φ)) k
+      w3 .1 ∙ rw (w2 .1, w1 .1) (sym (search-three reference all (left - 1) φ b0)) ∙ ap (λ (k : ℕ). improved b0 (answerFrom reference all k φ)) k

@@ -34,14 +34,15 @@ fn search(
     mut best: Best,
 ) -> Best
     requires { ⌜
-        Ready (now reference) (now first) (now second) (now table) n
+        Ready (basesOf (now reference)) (now first) (now second) (now table) n
         × (left ≤ n)
-        × Made (variantsFrom (now reference) (now first) (now second) (now table) 0 n) (choicesFrom choices 0 (n - left)) choices top
+        × Made (variantsFrom (basesOf (now reference)) (now first) (now second) (now table) 0 n)
+        (choicesFrom choices 0 (n - left)) choices top
         × T (canBeat? top best)
         ⌝ }
     ensures { λ r. ⌜
         r ≡ improved best (answerFrom (basesOf (now (reference .entry)))
-        (variantsFrom (now (reference .entry)) (now (first .entry)) (now (second .entry)) (now (table .entry)) 0 n) left
+        (variantsFrom (basesOf (now (reference .entry))) (now (first .entry)) (now (second .entry)) (now (table .entry)) 0 n) left
         (choicesFrom choices 0 (n - left)))
         ⌝ }
 {
@@ -128,10 +129,10 @@ pub fn best_choices(
     table: &[u32; TABLE],
     n: usize,
 ) -> Best
-    requires { ⌜ Ready (now reference) (now first) (now second) (now table) n ⌝ }
+    requires { ⌜ Ready (basesOf (now reference)) (now first) (now second) (now table) n ⌝ }
     ensures { λ r. ⌜
         r ≡ bestAnswer (basesOf (now (reference .entry)))
-        (variantsFrom (now (reference .entry)) (now (first .entry)) (now (second .entry)) (now (table .entry)) 0 n)
+        (variantsFrom (basesOf (now (reference .entry))) (now (first .entry)) (now (second .entry)) (now (table .entry)) 0 n)
         ⌝ }
 {
     let choices = [b'0'; MOST];

@@ -11,12 +11,11 @@ use native.Mathlib.Omega.{arith}
 use borrow.Author.Tests.{ltb-true, ltb-false}
 use lib.Dec.{T, leb, ltb, leb→le}
 use lib.ListN.{length}
-use Rattle.bases.specs.Pick.{pick}
 use Rattle.bases.proofs.TestLaws.{of-true, of-false, is-false, both}
 use Rattle.donors.specs.declared.table.Allele.{Allele}
 use Rattle.donors.specs.declared.table.Row.{Row}
 use Rattle.donors.specs.Agree.{Ready}
-use Rattle.donors.specs.Table.{most, rowAt, Sound}
+use Rattle.donors.specs.Table.{most, rowAt, basesFrom, Sound}
 use Rattle.trials.specs.Ready.{within?, stands?, sound?, soundRow?, soundRows?, ready?}
 
 within : (at len size : ℕ) → T (within? at len size) → at + len ≤ size
@@ -32,9 +31,9 @@ sound reference text r h =
     let one = parts (r .copy1) (v .1) in
     record { span = within (r .start) (r .len) _ (w .0); zero = zero .1; one = one .1; some0 = zero .0; some1 = one .0 }
   where
-    parts : (a : Allele) → T (stands? reference text a) → (1 ≤ a .len) × (a .at + a .len ≤ length (pick (a .text) text reference))
+    parts : (a : Allele) → T (stands? reference text a) → (1 ≤ a .len) × (a .at + a .len ≤ length (basesFrom reference text (a .text)))
     parts a h =
-        let w = both (leb 1 (a .len)) (within? (a .at) (a .len) (length (pick (a .text) text reference))) .0 h in
+        let w = both (leb 1 (a .len)) (within? (a .at) (a .len) (length (basesFrom reference text (a .text)))) .0 h in
         (leb→le 1 (a .len) (w .0), within (a .at) (a .len) _ (w .1))
 
 module _ (reference first second t : List ℕ) where

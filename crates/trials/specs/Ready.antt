@@ -8,15 +8,15 @@ use lib.ListN.{length}
 use Rattle.bases.specs.Pick.{pick}
 use Rattle.donors.specs.declared.table.Allele.{Allele}
 use Rattle.donors.specs.declared.table.Row.{Row}
-use Rattle.donors.specs.Table.{most, rowAt}
+use Rattle.donors.specs.Table.{most, rowAt, basesFrom}
 
--- So many bytes from a place on lie in a size.
+-- So many bases from a place on lie in a size.
 abbrev pub within? : ℕ → ℕ → ℕ → Bool
 within? at len size = leb at size && leb len (size - at)
 
--- An allele is some bytes of the text, or of the reference.
+-- An allele is some bases of the text, or of the reference, which is the list of its bases.
 abbrev pub stands? : List ℕ → List ℕ → Allele → Bool
-stands? reference text a = leb 1 (a .len) && within? (a .at) (a .len) (length (pick (a .text) text reference))
+stands? reference text a = leb 1 (a .len) && within? (a .at) (a .len) (length (basesFrom reference text (a .text)))
 
 -- A row is sound, with the text of its list.
 abbrev pub sound? : List ℕ → List ℕ → Row → Bool

@@ -2,8 +2,10 @@
 // text or on the reference.
 ghost use mathlib.Core.Path.{_≡_};
 ghost use Prim.Native.Nat.{_<_};
+ghost use Rattle.bases.specs.Letter.{basesOf};
 ghost use Rattle.donors.specs.Table.{most, rowAt};
 ghost use Rattle.trials.specs.Ready.{within?, stands?, sound?, soundRow?, ready?};
+use bases::reference::base_count;
 use donors::table::Allele;
 use donors::table::LEN;
 use donors::table::LIST;
@@ -13,7 +15,7 @@ use donors::table::TABLE;
 use donors::table::allele_of;
 use donors::table::number;
 
-// Do `len` bytes from `at` on lie in `size`?
+// Do `len` bases from `at` on lie in `size`?
 fn is_within(at: usize, len: usize, size: usize) -> bool
     ensures { λ r. ⌜ r ≡ within? at len size ⌝ }
 {
@@ -23,9 +25,9 @@ fn is_within(at: usize, len: usize, size: usize) -> bool
     len <= size - at
 }
 
-// Is the allele some bytes of the text, or of the reference?
+// Is the allele some bases of the text, or of the reference?
 fn stands(reference: &[u8], text: &[u8], allele: Allele) -> bool
-    ensures { λ r. ⌜ r ≡ stands? (now (reference .entry)) (now (text .entry)) allele ⌝ }
+    ensures { λ r. ⌜ r ≡ stands? (basesOf (now (reference .entry))) (now (text .entry)) allele ⌝ }
 {
     if allele.len == 0 {
         return false;
@@ -33,17 +35,17 @@ fn stands(reference: &[u8], text: &[u8], allele: Allele) -> bool
     if allele.text {
         return is_within(allele.at, allele.len, text.len());
     }
-    is_within(allele.at, allele.len, reference.len())
+    is_within(allele.at, allele.len, base_count(reference))
 }
 
 // Is row i sound, with the text of its list?
 fn is_sound(reference: &[u8], text: &[u8], table: &[u32; TABLE], i: usize) -> bool
     requires { ⌜ i < most ⌝ }
-    ensures { λ r. ⌜ r ≡ sound? (now (reference .entry)) (now (text .entry)) (rowAt (now (table .entry)) i) ⌝ }
+    ensures { λ r. ⌜ r ≡ sound? (basesOf (now (reference .entry))) (now (text .entry)) (rowAt (now (table .entry)) i) ⌝ }
 {
     let start = number(table, i, START);
     let len = number(table, i, LEN);
-    if !is_within(start, len, reference.len()) {
+    if !is_within(start, len, base_count(reference)) {
         return false;
     }
     if !stands(reference, text, allele_of(table, i, b'+', 0)) {
@@ -62,7 +64,7 @@ fn is_sound_row(
 ) -> bool
     requires { ⌜ i < most ⌝ }
     ensures { λ r. ⌜
-        r ≡ soundRow? (now (reference .entry)) (now (first .entry)) (now (second .entry)) (now (table .entry)) i
+        r ≡ soundRow? (basesOf (now (reference .entry))) (now (first .entry)) (now (second .entry)) (now (table .entry)) i
         ⌝ }
 {
     if number(table, i, LIST) == 1 {
@@ -80,7 +82,7 @@ pub fn is_ready(
     n: usize,
 ) -> bool
     ensures { λ r. ⌜
-        r ≡ ready? (now (reference .entry)) (now (first .entry)) (now (second .entry)) (now (table .entry)) n
+        r ≡ ready? (basesOf (now (reference .entry))) (now (first .entry)) (now (second .entry)) (now (table .entry)) n
         ⌝ }
 {
     if MOST < n {

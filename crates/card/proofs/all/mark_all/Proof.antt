@@ -39,6 +39,7 @@ use denote.Triple.Entry.{onEntry}
 use denote.Triple.Spec.{Meets, tripleOf}
 use denote.Triple.Statement.{Contract, Triple}
 use denote.Triple.Table.{entered, cited}
+use Rattle.bases.specs.Letter.{basesOf}
 use Rattle.bases.specs.Put.{put}
 use Rattle.bases.proofs.TestLaws.{neither}
 use Rattle.clusters.specs.declared.plan.Cluster.{Cluster}
@@ -121,13 +122,13 @@ module _ {M : Type 1} (𝓤 : URA M) (H : Heap 𝓤) (A : Atoms 𝓤) (W : Given
     (x : RefT (List Cluster)) (m : RefT (List ℕ))
     (rooms : Rooms xs x m) where
   abbrev P : List Cluster
-  P = planOf (xs .0 .now) (xs .1 .1 .0 .now) (xs .1 .1 .1 .0 .now)
+  P = planOf (basesOf (xs .0 .now)) (xs .1 .1 .0 .now) (xs .1 .1 .1 .0 .now)
 
   abbrev marks : List ℕ
-  marks = allMarks (xs .0 .now) (clustersOf (xs .0 .now) (xs .1 .1 .0 .now) (xs .1 .1 .1 .0 .now))
+  marks = allMarks (basesOf (xs .0 .now)) (clustersOf (basesOf (xs .0 .now)) (xs .1 .1 .0 .now) (xs .1 .1 .1 .0 .now))
 
   abbrev score : ℕ
-  score = totalScore (xs .0 .now) (clustersOf (xs .0 .now) (xs .1 .1 .0 .now) (xs .1 .1 .1 .0 .now))
+  score = totalScore (basesOf (xs .0 .now)) (clustersOf (basesOf (xs .0 .now)) (xs .1 .1 .0 .now) (xs .1 .1 .1 .0 .now))
 
   abbrev small : Bool
   small = smallRoom? (length (x .now)) (length (m .now))

@@ -4,6 +4,7 @@ use mathlib.Core.Path.{sym, ap, _∙_}
 use native.Mathlib.Omega.{arith}
 use borrow.Author.Needs.{needs}
 use borrow.Author.Tests.{not-true, not-false}
+use Rattle.bases.specs.Letter.{basesOf}
 use Rattle.vcf.specs.declared.list.Fault.{Fault}
 use Rattle.vcf.proofs.AcceptedLaws.{readable-records, accepted-from}
 use Rattle.vcf.proofs.GivenLaws.{judge-place-fits}
@@ -36,7 +37,7 @@ cast-refused c =
     let name = c .before .before .before .before .before .before .before .before .args .name .now in
     let t = c .before .before .before .before .before .before .before .before .args .text .now in
     let e = ap (λ (f : Fault). f .line) (c .before .before .judge .ensures) in
-    omega (arith, judge-line-fits r name t)
+    omega (arith, judge-line-fits (basesOf r) name t)
 
 cast-refused-2 : tie.Need-cast-refused-2
 cast-refused-2 c =
@@ -44,7 +45,7 @@ cast-refused-2 c =
     let name = c .before .before .before .before .before .before .before .before .before .args .name .now in
     let t = c .before .before .before .before .before .before .before .before .before .args .text .now in
     let e = ap (λ (f : Fault). f .place) (c .before .before .before .judge .ensures) in
-    omega (arith, judge-place-fits r name t)
+    omega (arith, judge-place-fits (basesOf r) name t)
 
 refused-requires-2 : tie.Need-refused-requires-2
 refused-requires-2 c κs = search needs
@@ -85,7 +86,7 @@ entry-at-requires c κs =
     let t = c .before .before .before .before .before .before .before .before .before .args .text .now in
     let i = c .before .before .before .before .before .before .before .before .before .args .entry in
     let accepted = sym (ap (λ (f : Fault). f .number) (c .before .before .before .judge .ensures)) ∙ c .before .before .if2 .left in
-    (omega arith, rw (c .before .record-at .ensures) (readable-records r name t _ (accepted-from r name t accepted i)))
+    (omega arith, rw (c .before .record-at .ensures) (readable-records (basesOf r) name t _ (accepted-from (basesOf r) name t accepted i)))
 
 refused-requires-4 : tie.Need-refused-requires-4
 refused-requires-4 c κs = search needs

@@ -3,6 +3,7 @@ use mathlib.Core.Path.{_≡_, sym, ap, _∙_}
 use borrow.Author.Needs.{needs}
 use lib.Dec.{ltb}
 use lib.ListN.{length}
+use Rattle.bases.specs.Letter.{basesOf}
 use Rattle.clusters.specs.Heads.{startHeads}
 use Rattle.clusters.specs.Merged.{mergedItems}
 use Rattle.marks.proofs.CountLaws.{counts-few}
@@ -45,7 +46,7 @@ count-lists-requires c κs =
     let e = c .before .before .lists-refused .ensures in
     let z = sym (ap (λ (x : Answer). x .number) e) ∙ c .if1 .left in
     let k = lists-answerable r name t1 t2 (ltb (length m) leastRoom) z .0 in
-    (ready-readable r t1 t2 (startHeads t1 t2) (k .ready), count-room r name t1 t2 m z, k .entries)
+    (ready-readable (basesOf r) t1 t2 (startHeads t1 t2) (k .ready), count-room r name t1 t2 m z, k .entries)
 
 counted-of-requires-2 : tie.Need-counted-of-requires-2
 counted-of-requires-2 c κs =

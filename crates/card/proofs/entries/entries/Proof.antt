@@ -9,6 +9,7 @@ use lib.ListN.{length}
 use contract.Running.{givenOf, tables, tablesOf}
 use denote.Triple.Spec.{tripleOf}
 use denote.Triple.Table.{entered, cited}
+use Rattle.bases.specs.Letter.{basesOf}
 use Rattle.clusters.specs.Heads.{Ready, startHeads}
 use Rattle.listed.specs.Listed.{listedOf}
 use Rattle.clusters.specs.Merged.{mergedItems}
@@ -37,11 +38,11 @@ abbrev Asks : List ℕ → List ℕ → List ℕ → ℕ → Type 0
 Asks reference first second room = Ready reference first second (startHeads first second) × (length (mergedItems first second) ≤ room)
 
 asked : (reference name first second : List ℕ) (room : ℕ) → planRefusal reference name first second room .number ≡ 0
-    → Asks reference first second room × (length (listedOf reference first second) ≤ leastRoom)
+    → Asks (basesOf reference) first second room × (length (listedOf (basesOf reference) first second) ≤ leastRoom)
 asked reference name first second room z =
     let can = lists-answerable reference name first second (ltb room leastRoom) z in
     let roomy : leastRoom ≤ room = ltb-false room leastRoom (can .1) in
-    ((can .0 .ready, omega (arith, can .0 .entries)), omega (arith, can .0 .entries, listed-length reference first second))
+    ((can .0 .ready, omega (arith, can .0 .entries)), omega (arith, can .0 .entries, listed-length (basesOf reference) first second))
 
 pub entries-spec : {M : Type 1} → stated.statement M
 unfolding code.routine tablesOf

@@ -3,6 +3,7 @@ use mathlib.Core.Path.{sym, ap, _∙_}
 use native.Mathlib.Omega.{arith}
 use borrow.Author.Needs.{needs}
 use borrow.Author.Tests.{not-true, not-false}
+use Rattle.bases.specs.Letter.{basesOf}
 use Rattle.vcf.specs.declared.list.Fault.{Fault}
 use Rattle.vcf.proofs.GivenLaws.{judge-place-fits}
 use Rattle.vcf.proofs.JudgeLaws.{judge-line-fits}
@@ -59,7 +60,7 @@ cast-refuse c =
     let name = c .before .before .before .before .before .before .before .before .before .before .args .name .now in
     let t = c .before .before .before .before .before .before .before .before .before .before .args .text .now in
     let e = ap (λ (f : Fault). f .line) (c .before .before .before .judge .ensures) in
-    omega (arith, judge-line-fits r name t)
+    omega (arith, judge-line-fits (basesOf r) name t)
 
 cast-refuse-2 : tie.Need-cast-refuse-2
 cast-refuse-2 c =
@@ -67,7 +68,7 @@ cast-refuse-2 c =
     let name = c .before .before .before .before .before .before .before .before .before .before .before .args .name .now in
     let t = c .before .before .before .before .before .before .before .before .before .before .before .args .text .now in
     let e = ap (λ (f : Fault). f .place) (c .before .before .before .before .judge .ensures) in
-    omega (arith, judge-place-fits r name t)
+    omega (arith, judge-place-fits (basesOf r) name t)
 
 refuse-requires-4 : tie.Need-refuse-requires-4
 refuse-requires-4 c κs = search needs

@@ -2,6 +2,7 @@
 use mathlib.Core.Path.{sym, ap, _∙_}
 use native.Mathlib.Omega.{arith}
 use borrow.Author.Needs.{needs}
+use Rattle.bases.specs.Letter.{basesOf}
 use Rattle.vcf.specs.declared.list.Fault.{Fault}
 use Rattle.vcf.proofs.GivenLaws.{judge-place-fits}
 use Rattle.vcf.proofs.JudgeLaws.{judge-line-fits}
@@ -47,7 +48,7 @@ cast-refuse c =
     let name = c .before .before .before .before .before .before .before .before .before .before .before .args .name .now in
     let second = c .before .before .before .before .before .before .before .before .before .before .before .args .second .now in
     let e = ap (λ (f : Fault). f .line) (c .before .before .before .judge .ensures) in
-    omega (arith, judge-line-fits r name second)
+    omega (arith, judge-line-fits (basesOf r) name second)
 
 cast-refuse-2 : tie.Need-cast-refuse-2
 cast-refuse-2 c =
@@ -55,7 +56,7 @@ cast-refuse-2 c =
     let name = c .before .before .before .before .before .before .before .before .before .before .before .before .args .name .now in
     let second = c .before .before .before .before .before .before .before .before .before .before .before .before .args .second .now in
     let e = ap (λ (f : Fault). f .place) (c .before .before .before .before .judge .ensures) in
-    omega (arith, judge-place-fits r name second)
+    omega (arith, judge-place-fits (basesOf r) name second)
 
 refuse-requires-2 : tie.Need-refuse-requires-2
 refuse-requires-2 c κs = search needs

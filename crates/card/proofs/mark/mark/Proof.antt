@@ -43,6 +43,7 @@ use denote.Triple.Spec.{Meets, tripleOf}
 use denote.Triple.Statement.{Triple}
 use denote.Triple.Table.{entered, cited}
 use denote.Triple.Walked.{goes-slice}
+use Rattle.bases.specs.Letter.{basesOf}
 use Rattle.bases.proofs.TestLaws.{neither}
 use Rattle.bases.specs.Pick.{pick}
 use Rattle.clusters.specs.declared.plan.Cluster.{Cluster}
@@ -112,7 +113,7 @@ module _ {M : Type 1} (𝓤 : URA M) (H : Heap 𝓤) (A : Atoms 𝓤) (W : Given
   lists = firstRefusal (listsChecks (reference .now) (name .now) (first .now) (second .now) small)
 
   abbrev same : Bool
-  same = isPlan? (planOf (reference .now) (first .now) (second .now)) (plan .now)
+  same = isPlan? (planOf (basesOf (reference .now)) (first .now) (second .now)) (plan .now)
 
   -- the three texts that every call reads, and what the name, the records and the marks own
   abbrev Texts : List RattleType
@@ -197,8 +198,8 @@ module _ {M : Type 1} (𝓤 : URA M) (H : Heap 𝓤) (A : Atoms 𝓤) (W : Given
           tt,
         )
         ! (fmOf 𝓤 H (W .laws) 𝓣) (known .1 .1 .1) (factI 𝓤 _ (emp 𝓤) (given .0 .ready, given .0 .short, omega (arith, given .0 .entries, enough-marks)))
-        (λ (b : Answer) ws. (b ≡ answerAsked same (askedFor (reference .now) (clustersOf (reference .now) (first .now) (second .now)) k))
-        × (ws .1 .1 .1 .1 .1 .0 ≡ pick same (marksAfter (reference .now) (clustersOf (reference .now) (first .now) (second .now)) k (marks .now)) (marks .now)))
+        (λ (b : Answer) ws. (b ≡ answerAsked same (askedFor (basesOf (reference .now)) (clustersOf (basesOf (reference .now)) (first .now) (second .now)) k))
+        × (ws .1 .1 .1 .1 .1 .0 ≡ pick same (marksAfter (basesOf (reference .now)) (clustersOf (basesOf (reference .now)) (first .now) (second .now)) k (marks .now)) (marks .now)))
         (λ b ws. refl)
         (and-then ! (local ! 31 refl)
         (and-then ! (local ! 27 refl) (and-then ! (local ! 25 refl) (and-then ! (local ! 13 refl) (and-then ! (local ! 21 refl) (and-then ! (local ! 3 refl) (no-more !))))))) (λ b v good left f.

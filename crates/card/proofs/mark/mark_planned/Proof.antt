@@ -4,6 +4,7 @@ use mathlib.Core.Path.{ap, _∙_}
 use native.Mathlib.Omega.{arith}
 use borrow.Author.Needs.{needs}
 use borrow.Author.Tests.{not-true, not-false}
+use Rattle.bases.specs.Letter.{basesOf}
 use Rattle.marks.specs.declared.mark.Marked.{Marked}
 use Rattle.marks.specs.Marks.{clustersOf}
 use Rattle.clusters.proofs.CardClusters.{clusters-plain}
@@ -57,8 +58,8 @@ cast-give c =
     let e = ap (λ (m : Marked). m .score) (c .before .before .before .before .before .before .before .mark-one .ensures .0) in
     omega (
       arith,
-      asked-score (a .reference .now) (clustersOf (a .reference .now) (a .first .now) (a .second .now))
-          (clusters-plain (a .reference .now) (a .first .now) (a .second .now)) (a .cluster),
+      asked-score (basesOf (a .reference .now)) (clustersOf (basesOf (a .reference .now)) (a .first .now) (a .second .now))
+          (clusters-plain (basesOf (a .reference .now)) (a .first .now) (a .second .now)) (a .cluster),
     )
 
 give-requires-2 : tie.Need-give-requires-2

@@ -5,7 +5,9 @@ use borrow.Author.Needs.{needs}
 use borrow.Author.Tests.{ltb-false}
 use lib.Dec.{ltb}
 use lib.ListN.{length}
+use Rattle.bases.specs.Letter.{basesOf}
 use Rattle.bases.proofs.PutLaws.{put-length}
+use Rattle.bases.proofs.ReferenceLaws.{reference-bases}
 use Rattle.bases.proofs.TestLaws.{of-true}
 use Rattle.written.specs.Written.{writtenText}
 use Rattle.written.proofs.WrittenList.{written-not-longer}
@@ -40,7 +42,7 @@ write-list-requires c κs =
     let d = a .out .now in
     let z = sym (ap (λ (x : Answer). x .number) (c .before .before .before .list-refused .ensures)) ∙ c .before .if1 .left in
     let read = list-read r name t (ltb (length d) (length t)) z in
-    (of-true (read .right), record { name = name; accepted = read .accepted }, ltb-false (length d) (length t) (read .roomy))
+    (reference-bases r (of-true (read .right)), record { name = name; accepted = read .accepted }, ltb-false (length d) (length t) (read .roomy))
 
 cast-give : tie.Need-cast-give
 cast-give c =
@@ -52,8 +54,8 @@ cast-give c =
     let z = sym (ap (λ (x : Answer). x .number) (c .before .before .before .before .before .before .list-refused .ensures)) ∙ c .before .before .before .before .if1 .left in
     let read = list-read r name t (ltb (length d) (length t)) z in
     let n = c .before .before .write-list .ensures .0 in
-    let fits = text-fits t (accepted-zero r name t (read .accepted) .fits) in
-    omega (arith, written-not-longer r name (of-true (read .right)) t (read .accepted))
+    let fits = text-fits t (accepted-zero (basesOf r) name t (read .accepted) .fits) in
+    omega (arith, written-not-longer (basesOf r) name (reference-bases r (of-true (read .right))) t (read .accepted))
 
 give-requires : tie.Need-give-requires
 give-requires c κs = search needs
@@ -69,7 +71,8 @@ same-length c =
     let z = sym (ap (λ (x : Answer). x .number) (c .before .before .before .before .before .before .before .list-refused .ensures)) ∙ c .before .before .before .before .before .if1 .left in
     let read = list-read r name t (ltb (length d) (length t)) z in
     ap length (c .before .before .before .write-list .ensures .1)
-    ∙ put-length d 0 (omega arith) (writtenText r t) (omega (arith, written-not-longer r name (of-true (read .right)) t (read .accepted), ltb-false (length d) (length t) (read .roomy)))
+    ∙ put-length d 0 (omega arith) (writtenText (basesOf r) t)
+    (omega (arith, written-not-longer (basesOf r) name (reference-bases r (of-true (read .right))) t (read .accepted), ltb-false (length d) (length t) (read .roomy)))
 
 returns-2 : tie.Need-returns-2
 returns-2 c =

@@ -9,6 +9,7 @@ use lib.ListN.{length}
 use contract.Running.{givenOf, tables, tablesOf}
 use denote.Triple.Spec.{tripleOf}
 use denote.Triple.Table.{entered, cited}
+use Rattle.bases.specs.Letter.{basesOf}
 use Rattle.clusters.specs.Heads.{Ready, startHeads}
 use Rattle.clusters.specs.Plan.{planOf}
 use Rattle.clusters.proofs.ByHand.{Met}
@@ -35,7 +36,7 @@ abbrev Asks : List ℕ → List ℕ → List ℕ → ℕ → Type 0
 Asks reference first second room = Ready reference first second (startHeads first second) × (length (planOf reference first second) ≤ room)
 
 asked : (reference name first second : List ℕ) (room : ℕ) → planRefusal reference name first second room .number ≡ 0
-    → Asks reference first second room × (length (planOf reference first second) ≤ leastRoom)
+    → Asks (basesOf reference) first second room × (length (planOf (basesOf reference) first second) ≤ leastRoom)
 asked reference name first second room z =
     let can = lists-answerable reference name first second (ltb room leastRoom) z in
     let roomy : leastRoom ≤ room = ltb-false room leastRoom (can .1) in

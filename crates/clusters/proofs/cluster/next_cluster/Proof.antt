@@ -6,6 +6,8 @@ use native.Mathlib.Omega.{arith}
 use borrow.Author.Needs.{needs}
 use borrow.Author.Tests.{not-true, not-false}
 use lib.ListN.{length}
+use Rattle.bases.specs.Letter.{basesOf}
+use Rattle.bases.proofs.LetterLaws.{bases-length}
 use Rattle.clusters.specs.Heads.{itemsFrom, done?, nextItem}
 use Rattle.clusters.specs.Item.{itemSize}
 use Rattle.clusters.specs.declared.gap.Size.{Size}
@@ -16,7 +18,7 @@ use Rattle.clusters.proofs.cluster.next_cluster.Statement.{statement}
 use Rattle.clusters.proofs.cluster.next_cluster.Tie as tie
 
 abbrev Inv-loop : tie.InvT-loop
-Inv-loop reference first second current₀ at₀ count₀ current at count = Walked reference first second current₀ at₀ current at count
+Inv-loop reference first second current₀ at₀ count₀ current at count = Walked (basesOf reference) first second current₀ at₀ current at count
 
 abbrev μ-loop : tie.MeasureT-loop
 μ-loop reference first second current₀ at₀ count₀ current at count = length (itemsFrom first second at)
@@ -26,12 +28,12 @@ next-item-requires c κs = (c .before .before .before .pre .0, c .before .before
 
 size-of-requires : tie.Need-size-of-requires Inv-loop μ-loop
 size-of-requires c κs =
-    let r = c .before .before .before .before .args .reference .now in
+    let r = basesOf (c .before .before .before .before .args .reference .now) in
     let t1 = c .before .before .before .before .args .first .now in
     let t2 = c .before .before .before .before .args .second .now in
     let h = c .before .before .before .before .args .heads in
     let s = next-sound r t1 t2 h (c .before .before .before .before .pre .1) (c .before .before .before .before .pre .0) in
-    rw (c .next-item .ensures) (s .pos, omega (arith, s .within))
+    rw (c .next-item .ensures) (s .pos, omega (arith, s .within, bases-length (c .before .before .before .before .args .reference .now)))
 
 begin-requires : tie.Need-begin-requires Inv-loop μ-loop
 begin-requires c κs = search needs
@@ -45,7 +47,7 @@ after-requires c κs =
 
 loop-holds : tie.Need-loop-holds Inv-loop μ-loop
 loop-holds c =
-    let r = c .before .before .before .before .before .before .before .args .reference .now in
+    let r = basesOf (c .before .before .before .before .before .before .before .args .reference .now) in
     let t1 = c .before .before .before .before .before .before .before .args .first .now in
     let t2 = c .before .before .before .before .before .before .before .args .second .now in
     let h = c .before .before .before .before .before .before .before .args .heads in
@@ -67,19 +69,20 @@ next-item-requires-2 c κs =
 
 size-of-requires-2 : tie.Need-size-of-requires-2 Inv-loop μ-loop
 size-of-requires-2 c κs =
-    let r = c .before .before .before .before .before .before .before .before .before .before .before .args .reference .now in
+    let r = basesOf (c .before .before .before .before .before .before .before .before .before .before .before .args .reference .now) in
     let t1 = c .before .before .before .before .before .before .before .before .before .before .before .args .first .now in
     let t2 = c .before .before .before .before .before .before .before .before .before .before .before .args .second .now in
     let w = c .before .before .before .loop .inv in
     let k = c .before .before .before .loop .at in
     let d : done? t1 t2 k ≡ false = sym (c .before .before .is-done .ensures) ∙ not-true _ (c .before .if1 .taken) in
     let s = next-sound r t1 t2 k (w .ready) d in
-    rw (c .next-item2 .ensures) (s .pos, omega (arith, s .within, c .before .before .before .before .before .before .before .before .before .before .before .good))
+    let entered = c .before .before .before .before .before .before .before .before .before .before .before in
+    rw (c .next-item2 .ensures) (s .pos, omega (arith, s .within, bases-length (entered .args .reference .now), entered .good))
 
 is-cut-requires : tie.Need-is-cut-requires Inv-loop μ-loop
 is-cut-requires c κs =
     let c8 = c .before .before .before .before .before .before .before .before in
-    let r = c8 .before .before .before .before .args .reference .now in
+    let r = basesOf (c8 .before .before .before .before .args .reference .now) in
     let t1 = c8 .before .before .before .before .args .first .now in
     let t2 = c8 .before .before .before .before .args .second .now in
     let w = c .before .before .before .before .loop .inv in
@@ -95,7 +98,7 @@ is-cut-requires c κs =
 returns : tie.Need-returns Inv-loop μ-loop
 returns c =
     let c8 = c .before .before .before .before .before .before .before .before in
-    let r = c8 .before .before .before .before .before .before .args .reference .now in
+    let r = basesOf (c8 .before .before .before .before .before .before .args .reference .now) in
     let t1 = c8 .before .before .before .before .before .before .args .first .now in
     let t2 = c8 .before .before .before .before .before .before .args .second .now in
     let h = c8 .before .before .before .before .before .before .args .heads in
@@ -113,7 +116,7 @@ returns c =
 more-requires : tie.Need-more-requires Inv-loop μ-loop
 more-requires c κs =
     let c8 = c .before .before .before .before .before .before .before .before in
-    let r = c8 .before .before .before .before .before .before .args .reference .now in
+    let r = basesOf (c8 .before .before .before .before .before .before .args .reference .now) in
     let t1 = c8 .before .before .before .before .before .before .args .first .now in
     let t2 = c8 .before .before .before .before .before .before .args .second .now in
     let w = c .before .before .before .before .before .before .loop .inv in
@@ -146,7 +149,7 @@ loop-less : tie.Need-loop-less Inv-loop μ-loop
 loop-less c =
     let c8 = c .before .before .before .before .before .before .before .before in
     let c16 = c8 .before .before .before .before .before .before .before .before in
-    let r = c16 .args .reference .now in
+    let r = basesOf (c16 .args .reference .now) in
     let t1 = c16 .args .first .now in
     let t2 = c16 .args .second .now in
     let w = c8 .loop .inv in
@@ -161,7 +164,7 @@ loop-again : tie.Need-loop-again Inv-loop μ-loop
 loop-again c =
     let c8 = c .before .before .before .before .before .before .before .before in
     let c16 = c8 .before .before .before .before .before .before .before .before in
-    let r = c16 .args .reference .now in
+    let r = basesOf (c16 .args .reference .now) in
     let t1 = c16 .args .first .now in
     let t2 = c16 .args .second .now in
     let w = c8 .loop .inv in
@@ -175,7 +178,7 @@ loop-again c =
 returns-2 : tie.Need-returns-2 Inv-loop μ-loop
 returns-2 c =
     let c8 = c .before .before .before .before .before .before .before .before in
-    let r = c8 .before .before .args .reference .now in
+    let r = basesOf (c8 .before .before .args .reference .now) in
     let t1 = c8 .before .before .args .first .now in
     let t2 = c8 .before .before .args .second .now in
     let h = c8 .before .before .args .heads in

@@ -13,21 +13,15 @@ returns c = sym (cut-behind (basesOf (c .before .before .before .args .reference
 reach-of-requires : tie.Need-reach-of-requires
 reach-of-requires c κs = search needs
 
-part-has-any-period-start : tie.Need-part-has-any-period-start
-part-has-any-period-start c = search needs
-
-part-has-any-period-end : tie.Need-part-has-any-period-end
-part-has-any-period-end c = search needs
-
 has-any-period-requires : tie.Need-has-any-period-requires
 has-any-period-requires c κs = search needs
 
 returns-2 : tie.Need-returns-2
 returns-2 c =
-    let r = c .before .before .before .before .before .before .args .reference .now in
-    let cur = c .before .before .before .before .before .before .args .current in
-    let p = c .before .before .before .before .before .before .args .start in
-    cut-read r cur p (omega arith) (omega arith) (c .before .before .reach-of .ensures) (c .has-any-period .ensures)
+    let r = basesOf (c .before .before .before .before .before .args .reference .now) in
+    let cur = c .before .before .before .before .before .args .current in
+    let p = c .before .before .before .before .before .args .start in
+    cut-read r cur p (omega arith) (omega arith) (c .before .reach-of .ensures) (c .has-any-period .ensures)
 
 pub is-cut-spec : {M : Type 1} → statement M
 is-cut-spec =
@@ -35,7 +29,5 @@ is-cut-spec =
     (tie.spec
     returns
     reach-of-requires
-    part-has-any-period-start
-    part-has-any-period-end
     has-any-period-requires
     returns-2)

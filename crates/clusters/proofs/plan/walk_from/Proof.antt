@@ -3,6 +3,7 @@ use mathlib.Core.Bool.{false}
 use mathlib.Core.Path.{_≡_, sym, ap, _∙_}
 use native.Mathlib.Omega.{arith}
 use borrow.Author.Needs.{needs}
+use Rattle.bases.specs.Letter.{basesOf}
 use Rattle.clusters.specs.declared.cluster.Found.{Found}
 use Rattle.clusters.specs.Heads.{done?}
 use Rattle.clusters.proofs.NextLaws.{count-le}
@@ -16,7 +17,7 @@ is-done-requires c κs = search needs
 returns : tie.Need-returns
 returns c =
     let s = c .before .before .before .before .before in
-    walk-none (s .args .reference .now) (s .args .first .now) (s .args .second .now) (s .args .i) (s .args .heads) (sym (c .before .is-done .ensures) ∙ c .if1 .taken)
+    walk-none (basesOf (s .args .reference .now)) (s .args .first .now) (s .args .second .now) (s .args .i) (s .args .heads) (sym (c .before .is-done .ensures) ∙ c .if1 .taken)
 
 next-cluster-requires : tie.Need-next-cluster-requires
 next-cluster-requires c κs = (sym (c .before .is-done .ensures) ∙ c .if1 .left, c .before .before .before .before .before .pre .0)
@@ -31,7 +32,7 @@ cast-count c =
         arith,
         s .pre .1,
         ap (λ (f : Found). f .count) (c .before .before .next-cluster .ensures),
-        count-le (s .args .reference .now) (s .args .first .now) (s .args .second .now)
+        count-le (basesOf (s .args .reference .now)) (s .args .first .now) (s .args .second .now)
             (s .args .heads) d,
       );
     }
@@ -40,7 +41,7 @@ returns-2 : tie.Need-returns-2
 returns-2 c =
     let c8 = c .before .before .before .before .before .before .before .before in
     let s = c8 in
-    walk-found (s .args .reference .now) (s .args .first .now) (s .args .second .now) (s .args .i) (s .args .heads)
+    walk-found (basesOf (s .args .reference .now)) (s .args .first .now) (s .args .second .now) (s .args .i) (s .args .heads)
     (sym (c .before .before .before .before .is-done .ensures) ∙ c .before .before .before .if1 .left)
     (c .before .before .next-cluster .result) (c .before .before .next-cluster .ensures)
 

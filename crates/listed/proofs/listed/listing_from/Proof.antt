@@ -5,6 +5,7 @@ use Prim.Native.Nat.{ℕ, _+_}
 use native.Mathlib.Omega.{arith}
 use borrow.Author.Needs.{needs}
 use Rattle.bases.specs.Letter.{basesOf}
+use Rattle.bases.proofs.LetterLaws.{bases-length}
 use Rattle.clusters.specs.declared.gap.Size.{Size}
 use Rattle.marks.specs.Counts.{one}
 use Rattle.clusters.specs.Gap.{cut?}
@@ -21,7 +22,7 @@ is-done-requires c κs = search needs
 returns : tie.Need-returns
 returns c =
     let a = c .before .before .before .before .before .before in
-    let r = a .args .reference .now in
+    let r = basesOf (a .args .reference .now) in
     let t1 = a .args .first .now in
     let t2 = a .args .second .now in
     let s = a .args .stand in
@@ -35,19 +36,19 @@ next-item-requires c κs =
 size-of-requires : tie.Need-size-of-requires
 size-of-requires c κs =
     let a = c .before .before .before .before .before .before .before in
-    let r = a .args .reference .now in
+    let r = basesOf (a .args .reference .now) in
     let t1 = a .args .first .now in
     let t2 = a .args .second .now in
     let s = a .args .stand in
     let d : done? t1 t2 (s .heads) ≡ false = sym (c .before .before .is-done .ensures) ∙ c .before .if1 .left in
     let n = next-sound r t1 t2 (s .heads) (a .pre .ready) d in
-    rw (c .next-item .ensures) (n .pos, omega (arith, n .within, a .good))
+    rw (c .next-item .ensures) (n .pos, omega (arith, n .within, bases-length (a .args .reference .now), a .good))
 
 is-cut-requires : tie.Need-is-cut-requires
 is-cut-requires c κs =
     let c8 = c .before .before .before .before .before .before .before .before in
     let a = c8 .before .before in
-    let r = a .args .reference .now in
+    let r = basesOf (a .args .reference .now) in
     let t1 = a .args .first .now in
     let t2 = a .args .second .now in
     let s = a .args .stand in
@@ -67,14 +68,14 @@ add-begun : tie.Need-add-begun
 add-begun c =
     let c8 = c .before .before .before .before .before .before .before .before in
     let a = c8 .before .before .before .before .before in
-    let r = a .args .reference .now in
+    let r = basesOf (a .args .reference .now) in
     let t1 = a .args .first .now in
     let t2 = a .args .second .now in
     let s = a .args .stand in
     let d : done? t1 t2 (s .heads) ≡ false = sym (c8 .is-done .ensures) ∙ c .before .before .before .before .before .before .before .if1 .left in
     let z = c .before .before .before .before .before in
     let e : z .size-of .result ≡ itemSize (nextItem t1 t2 (s .heads)) = z .size-of .ensures ∙ ap itemSize (z .before .next-item .ensures) in
-    let cut = c .before .before .is-cut .ensures ∙ ap (λ (z : Size). cut? (basesOf r) (s .current) (z .start)) e in
+    let cut = c .before .before .is-cut .ensures ∙ ap (λ (z : Size). cut? r (s .current) (z .start)) e in
     let b = c .before .one .ensures ∙ ap one cut in
     record { fits = begun-fits r t1 t2 s (a .pre) d (c .before .one .result) b }
 
@@ -82,13 +83,13 @@ sub-listed-as : tie.Need-sub-listed-as
 sub-listed-as c =
     let c8 = c .before .before .before .before .before .before .before .before in
     let a = c8 .before .before .before .before .before in
-    let r = a .args .reference .now in
+    let r = basesOf (a .args .reference .now) in
     let t1 = a .args .first .now in
     let t2 = a .args .second .now in
     let s = a .args .stand in
     let z = c .before .before .before .before .before in
     let e : z .size-of .result ≡ itemSize (nextItem t1 t2 (s .heads)) = z .size-of .ensures ∙ ap itemSize (z .before .next-item .ensures) in
-    let cut = c .before .before .is-cut .ensures ∙ ap (λ (z : Size). cut? (basesOf r) (s .current) (z .start)) e in
+    let cut = c .before .before .is-cut .ensures ∙ ap (λ (z : Size). cut? r (s .current) (z .start)) e in
     let b = c .before .one .ensures ∙ ap one cut in
     begun-made r t1 t2 s (a .pre) (c .before .one .result) b
 
@@ -99,7 +100,7 @@ after-requires : tie.Need-after-requires
 after-requires c κs =
     let c8 = c .before .before .before .before .before .before .before .before in
     let a = c8 .before .before .before .before .before .before in
-    let r = a .args .reference .now in
+    let r = basesOf (a .args .reference .now) in
     let t1 = a .args .first .now in
     let t2 = a .args .second .now in
     let s = a .args .stand in
@@ -110,7 +111,7 @@ nexts-after-requires : tie.Need-nexts-after-requires
 nexts-after-requires c κs =
     let c8 = c .before .before .before .before .before .before .before .before in
     let a = c8 .before .before .before .before .before .before .before in
-    let r = a .args .reference .now in
+    let r = basesOf (a .args .reference .now) in
     let t1 = a .args .first .now in
     let t2 = a .args .second .now in
     let s = a .args .stand in
@@ -121,7 +122,7 @@ grown-requires c κs =
     let c8 = c .before .before .before .before .before .before .before .before in
     let c16 = c8 .before .before .before .before .before .before .before .before in
     let a = c16 in
-    let r = a .args .reference .now in
+    let r = basesOf (a .args .reference .now) in
     let t1 = a .args .first .now in
     let t2 = a .args .second .now in
     let s = a .args .stand in
@@ -134,7 +135,7 @@ returns-2 c =
     let c8 = c .before .before .before .before .before .before .before .before in
     let c16 = c8 .before .before .before .before .before .before .before .before in
     let a = c16 .before in
-    let r = a .args .reference .now in
+    let r = basesOf (a .args .reference .now) in
     let t1 = a .args .first .now in
     let t2 = a .args .second .now in
     let s = a .args .stand in

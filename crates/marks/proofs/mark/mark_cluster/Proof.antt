@@ -1,5 +1,6 @@
 -- `marks::mark::mark_cluster` meets its contract: of a cluster that is not too large the table is filled, searched over and its choices written. Assumes nothing.
 use borrow.Author.Needs.{needs}
+use Rattle.bases.specs.Letter.{basesOf}
 use Rattle.clusters.proofs.HeadsLaws.{ready-readable}
 use Rattle.marks.proofs.MarkLaws.{next-small, next-ready, next-undecided, next-decided}
 use Rattle.marks.proofs.mark.mark_cluster.Statement.{statement}
@@ -15,7 +16,7 @@ returns : tie.Need-returns
 returns c =
     let c8 = c .before .before .before .before .before .before .before .before in
     let a = c8 .before .args in
-    let r = a .reference .now in
+    let r = basesOf (a .reference .now) in
     let t1 = a .first .now in
     let t2 = a .second .now in
     let w = c .before .before .put-undecided in
@@ -24,7 +25,7 @@ returns c =
 put-rows-requires : tie.Need-put-rows-requires
 put-rows-requires c κs =
     let a = c .before .before .before .before .before .before .args in
-    let r = a .reference .now in
+    let r = basesOf (a .reference .now) in
     let t1 = a .first .now in
     let t2 = a .second .now in
     let p = c .before .before .before .before .before .before .pre in
@@ -33,7 +34,7 @@ put-rows-requires c κs =
 best-choices-requires : tie.Need-best-choices-requires
 best-choices-requires c κs =
     let a = c .before .before .before .before .before .before .before .before .args in
-    let r = a .reference .now in
+    let r = basesOf (a .reference .now) in
     let t1 = a .first .now in
     let t2 = a .second .now in
     let p = c .before .before .before .before .before .before .before .before .pre in
@@ -50,7 +51,7 @@ returns-2 : tie.Need-returns-2
 returns-2 c =
     let c8 = c .before .before .before .before .before .before .before .before in
     let a = c8 .before .before .before .before .before .before .args in
-    let r = a .reference .now in
+    let r = basesOf (a .reference .now) in
     let t1 = a .first .now in
     let t2 = a .second .now in
     let w = c .before .before .before .before .before .before .before .put-rows in

@@ -6,6 +6,7 @@ use native.Mathlib.Omega.{arith}
 use borrow.Author.Needs.{needs}
 use borrow.Author.Tests.{not-true, not-false}
 use lib.ListN.{length}
+use Rattle.bases.specs.Letter.{basesOf}
 use Rattle.clusters.specs.declared.cluster.Found.{Found}
 use Rattle.clusters.specs.Heads.{itemsFrom, done?}
 use Rattle.clusters.proofs.NextLaws.{count-some, count-le}
@@ -15,7 +16,7 @@ use Rattle.marks.proofs.mark.mark_from.Tie as tie
 
 abbrev Inv-loop : tie.InvT-loop
 Inv-loop reference first second table₀ marks₀ heads₀ at₀ total₀ table marks heads at total =
-    Marking reference first second marks₀ heads₀ marks heads at total
+    Marking (basesOf reference) first second marks₀ heads₀ marks heads at total
 
 abbrev μ-loop : tie.MeasureT-loop
 μ-loop reference first second table₀ marks₀ heads₀ at₀ total₀ table marks heads at total = length (itemsFrom first second heads)
@@ -23,7 +24,7 @@ abbrev μ-loop : tie.MeasureT-loop
 loop-holds : tie.Need-loop-holds Inv-loop μ-loop
 loop-holds c =
     let a = c .before .before .before .before .args in
-    let r = a .reference .now in
+    let r = basesOf (a .reference .now) in
     let t1 = a .first .now in
     let t2 = a .second .now in
     let p = c .before .before .before .before .pre in
@@ -35,7 +36,7 @@ is-done-requires c κs = search needs
 next-cluster-requires : tie.Need-next-cluster-requires Inv-loop μ-loop
 next-cluster-requires c κs =
     let a = c .before .before .before .before .before .before .before .args in
-    let r = a .reference .now in
+    let r = basesOf (a .reference .now) in
     let t1 = a .first .now in
     let t2 = a .second .now in
     let l = c .before .before .loop in
@@ -46,7 +47,7 @@ mark-cluster-requires : tie.Need-mark-cluster-requires Inv-loop μ-loop
 mark-cluster-requires c κs =
     let c8 = c .before .before .before .before .before .before .before .before in
     let a = c8 .before .before .args in
-    let r = a .reference .now in
+    let r = basesOf (a .reference .now) in
     let t1 = a .first .now in
     let t2 = a .second .now in
     let l = c .before .before .before .before .before .loop in
@@ -62,7 +63,7 @@ add-total : tie.Need-add-total Inv-loop μ-loop
 add-total c =
     let c8 = c .before .before .before .before .before .before .before .before in
     let a = c8 .before .before .before .before .before .before .args in
-    let r = a .reference .now in
+    let r = basesOf (a .reference .now) in
     let t1 = a .first .now in
     let t2 = a .second .now in
     let l = c8 .before .loop in
@@ -76,7 +77,7 @@ add-at : tie.Need-add-at Inv-loop μ-loop
 add-at c =
     let c8 = c .before .before .before .before .before .before .before .before in
     let a = c8 .before .before .before .before .before .before .before .args in
-    let r = a .reference .now in
+    let r = basesOf (a .reference .now) in
     let t1 = a .first .now in
     let t2 = a .second .now in
     let l = c8 .before .before .loop in
@@ -90,7 +91,7 @@ loop-less : tie.Need-loop-less Inv-loop μ-loop
 loop-less c =
     let c8 = c .before .before .before .before .before .before .before .before in
     let a = c8 .before .before .before .before .before .before .before .before .args in
-    let r = a .reference .now in
+    let r = basesOf (a .reference .now) in
     let t1 = a .first .now in
     let t2 = a .second .now in
     let l = c8 .before .before .before .loop in
@@ -104,7 +105,7 @@ loop-again : tie.Need-loop-again Inv-loop μ-loop
 loop-again c =
     let c8 = c .before .before .before .before .before .before .before .before in
     let a = c8 .before .before .before .before .before .before .before .before .args in
-    let r = a .reference .now in
+    let r = basesOf (a .reference .now) in
     let t1 = a .first .now in
     let t2 = a .second .now in
     let l = c8 .before .before .before .loop in
@@ -120,7 +121,7 @@ same-length c = c .before .before .loop .inv .space
 returns : tie.Need-returns Inv-loop μ-loop
 returns c =
     let a = c .before .before .before .before .before .before .before .args in
-    let r = a .reference .now in
+    let r = basesOf (a .reference .now) in
     let t1 = a .first .now in
     let t2 = a .second .now in
     let l = c .before .before .loop in

@@ -4,6 +4,7 @@ use mathlib.Core.Path.{_≡_, sym, ap, _∙_}
 use native.Mathlib.Omega.{arith}
 use borrow.Author.Needs.{needs}
 use lib.ListN.{length}
+use Rattle.bases.specs.Letter.{basesOf}
 use Rattle.clusters.specs.declared.cluster.Found.{Found}
 use Rattle.clusters.specs.Heads.{startHeads, done?}
 use Rattle.clusters.specs.Merged.{mergedItems}
@@ -21,7 +22,7 @@ is-done-requires c κs = search needs
 returns : tie.Need-returns
 returns c =
     let a = c .before .before .before .before .before .before .before .before .args in
-    let r = a .reference .now in
+    let r = basesOf (a .reference .now) in
     let t1 = a .first .now in
     let t2 = a .second .now in
     let g = c .before .before .before .skip-clusters in
@@ -31,7 +32,7 @@ returns c =
 next-cluster-requires : tie.Need-next-cluster-requires
 next-cluster-requires c κs =
     let a = c .before .before .before .before .before .before .before .before .args in
-    let r = a .reference .now in
+    let r = basesOf (a .reference .now) in
     let t1 = a .first .now in
     let t2 = a .second .now in
     let g = c .before .before .before .skip-clusters in
@@ -42,7 +43,7 @@ mark-cluster-requires : tie.Need-mark-cluster-requires
 mark-cluster-requires c κs =
     let c8 = c .before .before .before .before .before .before .before .before in
     let a = c8 .before .before .before .args in
-    let r = a .reference .now in
+    let r = basesOf (a .reference .now) in
     let t1 = a .first .now in
     let t2 = a .second .now in
     let g = c .before .before .before .before .before .before .skip-clusters in
@@ -63,7 +64,7 @@ returns-2 : tie.Need-returns-2
 returns-2 c =
     let c8 = c .before .before .before .before .before .before .before .before in
     let a = c8 .before .before .before .before .before .before .args in
-    let r = a .reference .now in
+    let r = basesOf (a .reference .now) in
     let t1 = a .first .now in
     let t2 = a .second .now in
     let g = c8 .before .skip-clusters in

@@ -6,6 +6,7 @@ use Prim.Native.Nat.{suc, _+_, _-_, _≤_}
 use native.Mathlib.Omega.{arith}
 use borrow.Author.Needs.{needs}
 use lib.ListN.{length}
+use Rattle.bases.specs.Letter.{basesOf}
 use Rattle.clusters.specs.declared.cluster.Found.{Found}
 use Rattle.clusters.specs.Heads.{Ready, startHeads, itemsFrom, done?}
 use Rattle.marks.specs.Skip.{skipClusters}
@@ -17,8 +18,8 @@ use Rattle.marks.proofs.skip.skip_clusters.Tie as tie
 
 abbrev Inv-loop : tie.InvT-loop
 Inv-loop reference first second k heads₀ entries₀ left₀ heads entries left =
-    (skipClusters reference first second left heads entries ≡ skipClusters reference first second k (startHeads first second) 0)
-    × Ready reference first second heads × (entries + length (itemsFrom first second heads) ≤ length first + length second)
+    (skipClusters (basesOf reference) first second left heads entries ≡ skipClusters (basesOf reference) first second k (startHeads first second) 0)
+    × Ready (basesOf reference) first second heads × (entries + length (itemsFrom first second heads) ≤ length first + length second)
 
 abbrev μ-loop : tie.MeasureT-loop
 μ-loop reference first second k heads₀ entries₀ left₀ heads entries left = left
@@ -39,7 +40,7 @@ is-done-requires c κs = search needs
 returns : tie.Need-returns Inv-loop μ-loop
 returns c =
     let a = c .before .before .before .before .before .before .before .before .args in
-    let r = a .reference .now in
+    let r = basesOf (a .reference .now) in
     let t1 = a .first .now in
     let t2 = a .second .now in
     let l = c .before .before .before .loop in
@@ -49,7 +50,7 @@ returns c =
 next-cluster-requires : tie.Need-next-cluster-requires Inv-loop μ-loop
 next-cluster-requires c κs =
     let a = c .before .before .before .before .before .before .before .before .args in
-    let r = a .reference .now in
+    let r = basesOf (a .reference .now) in
     let t1 = a .first .now in
     let t2 = a .second .now in
     let l = c .before .before .before .loop in
@@ -59,7 +60,7 @@ next-cluster-requires c κs =
 add-entries : tie.Need-add-entries Inv-loop μ-loop
 add-entries c =
     let a = c .before .before .before .before .before .before .before .before .before .before .before .args in
-    let r = a .reference .now in
+    let r = basesOf (a .reference .now) in
     let t1 = a .first .now in
     let t2 = a .second .now in
     let l = c .before .before .before .before .before .before .loop in
@@ -77,7 +78,7 @@ loop-less c = omega arith
 loop-again : tie.Need-loop-again Inv-loop μ-loop
 loop-again c =
     let a = c .before .before .before .before .before .before .before .before .before .before .before .args in
-    let r = a .reference .now in
+    let r = basesOf (a .reference .now) in
     let t1 = a .first .now in
     let t2 = a .second .now in
     let l = c .before .before .before .before .before .before .loop in
@@ -94,7 +95,7 @@ loop-again c =
 returns-2 : tie.Need-returns-2 Inv-loop μ-loop
 returns-2 c =
     let a = c .before .before .before .before .before .before .args in
-    let r = a .reference .now in
+    let r = basesOf (a .reference .now) in
     let t1 = a .first .now in
     let t2 = a .second .now in
     let l = c .before .loop in

@@ -8,6 +8,7 @@ use Prim.Native.Nat.{ℕ, _<_}
 use native.Mathlib.Omega.{arith}
 use borrow.Fn.Kinds.{In}
 use borrow.Fn.PlainCycle.{Measures, is, falls, and}
+use Rattle.bases.specs.Letter.{basesOf}
 use Rattle.bases.proofs.TestLaws.{of-true}
 use Rattle.donors.specs.Choice.{Choice, plus, minus, copy0, copy1}
 use Rattle.matching.specs.declared.answer.Best.{Best}
@@ -59,7 +60,7 @@ abbrev Entry : ℕ → Type 0
 Entry t = search-lts.Else1 (calls t) (search-at t) search′.Post
 
 carried : (t : ℕ) (s : Start t)
-    → Carried (s .args .reference .now) (s .args .first .now) (s .args .second .now) (s .args .table .now) (s .args .t7) (s .args .top) (s .args .n) (s .args .left)
+    → Carried (basesOf (s .args .reference .now)) (s .args .first .now) (s .args .second .now) (s .args .table .now) (s .args .t7) (s .args .top) (s .args .n) (s .args .left)
 carried t s = record { few = s .pre .1 .0 .few; enough = s .pre .1 .1; made = s .pre .1 .2 }
 
 abbrev WentAt : (t : ℕ) (e : Entry t) → Choice → Best → List ℕ → Best → Type 0

@@ -2,6 +2,7 @@
 use mathlib.Core.Path.{_∙_}
 use native.Mathlib.Omega.{arith}
 use borrow.Author.Needs.{needs}
+use Rattle.bases.specs.Letter.{basesOf}
 use Rattle.matching.proofs.AnswerBest.{made-start, search-start}
 use Rattle.matching.proofs.ImprovedLaws.{nothing-beaten}
 use Rattle.matching.proofs.search.best_choices.Statement.{statement}
@@ -19,14 +20,14 @@ search-requires c κs =
     let a = s .args in (
       s .pre,
       omega arith,
-      made-start (a .reference .now) (a .first .now) (a .second .now) (a .table .now) (a .n) (c .before .sum-weights .result) (c .before .sum-weights .ensures),
+      made-start (basesOf (a .reference .now)) (a .first .now) (a .second .now) (a .table .now) (a .n) (c .before .sum-weights .result) (c .before .sum-weights .ensures),
       nothing-beaten (c .before .sum-weights .result) (c .nothing .result) (c .nothing .ensures),
     )
 
 returns : tie.Need-returns
 returns c =
     let a = c .before .before .before .before .before .before .args in
-    c .search .ensures ∙ search-start (a .reference .now) (a .first .now) (a .second .now) (a .table .now) (a .n) (c .before .nothing .result) (c .before .nothing .ensures)
+    c .search .ensures ∙ search-start (basesOf (a .reference .now)) (a .first .now) (a .second .now) (a .table .now) (a .n) (c .before .nothing .result) (c .before .nothing .ensures)
 
 pub best-choices-spec : {M : Type 1} → statement M
 best-choices-spec = tie.close (tie.spec sum-weights-requires nothing-requires search-requires returns)

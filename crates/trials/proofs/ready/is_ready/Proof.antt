@@ -5,6 +5,7 @@ use mathlib.Core.Path.{_≡_, sym, _∙_}
 use Prim.Native.Nat.{_-_, _≤_}
 use native.Mathlib.Omega.{arith}
 use borrow.Author.Tests.{le-leb, lt-leb, not-true, not-false}
+use Rattle.bases.specs.Letter.{basesOf}
 use Rattle.donors.specs.Table.{most}
 use Rattle.trials.specs.Ready.{soundRows?}
 use Rattle.trials.proofs.ReadyLaws.{rows-none, rows-more, rows-other}
@@ -12,7 +13,7 @@ use Rattle.trials.proofs.ready.is_ready.Statement.{statement}
 use Rattle.trials.proofs.ready.is_ready.Tie as tie
 
 abbrev Inv-loop : tie.InvT-loop
-Inv-loop reference first second table n i₀ i = (i ≤ n) × (soundRows? reference first second table i ≡ true)
+Inv-loop reference first second table n i₀ i = (i ≤ n) × (soundRows? (basesOf reference) first second table i ≡ true)
 
 abbrev μ-loop : tie.MeasureT-loop
 μ-loop reference first second table n i₀ i = n - i
