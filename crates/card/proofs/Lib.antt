@@ -6,6 +6,7 @@ pub mod AnswerSteps
 pub mod ArraySteps
 pub mod CallDetermines
 pub mod CallSteps
+pub mod CaseLaws
 pub mod ClusterMarks
 pub mod CountExamples
 pub mod CountLaws
@@ -18,6 +19,7 @@ pub mod Examples
 pub mod FillCall
 pub mod FillWalk
 pub mod GivenLaws
+pub mod ListCaseLaws
 pub mod ListSteps
 pub mod ListsLaws
 pub mod MarkDetermines
