@@ -38,7 +38,7 @@ extern "C" {
  *     if (!CARD_FITS(card_version())) fail("card.h and libcard_abi.a are of different versions");
  */
 #define CARD_VERSION_MAJOR 2u
-#define CARD_VERSION_MINOR 0u
+#define CARD_VERSION_MINOR 1u
 #define CARD_VERSION (CARD_VERSION_MAJOR << 16 | CARD_VERSION_MINOR)
 #define CARD_FITS(version) ((version) >> 16 == CARD_VERSION_MAJOR && ((version)&0xffffu) + 1 > CARD_VERSION_MINOR)
 
@@ -52,10 +52,14 @@ uint32_t card_version(void);
  *
  * The first allele of ALT is what stands before the first comma, or all of ALT where there is none. The second is all that stands
  * behind that comma: a further comma is a wrong byte of it. An empty allele begins at the comma or TAB that ends it.
+ *
+ * Bases are A, C, G, T and N, in upper or lower case. Two are equal if they are the same letter in either case, in the reference,
+ * REF and ALT alike; N equals only N. So 13 is told where letters differ, not where only their case does, and 22 and 23 are told of
+ * alleles that differ in case alone. All other bytes, those of CHROM and of the name among them, are compared as they are.
  */
 enum card_refusal {
     CARD_ANSWERED = 0,            /* the call is not refused */
-    CARD_WRONG_REFERENCE = 1,     /* the reference is not 1 to 65,535 bytes, each A, C, G, T or N */
+    CARD_WRONG_REFERENCE = 1,     /* the reference is not 1 to 65,535 bytes, each A, C, G, T or N in either case */
     CARD_SMALL_ROOM = 2,          /* lent room too small: marks below 1,024 bytes, plan below 1,024 clusters, entries
                                      below 1,024, normal text below the length of the given text */
     CARD_WRONG_TEXT = 3,          /* list text over 65,536 bytes, or not ending in LF (so also empty) */
@@ -67,7 +71,7 @@ enum card_refusal {
     CARD_NOT_TEN_FIELDS = 6,      /* a record has not ten TAB-separated fields, or an empty one */
     CARD_WRONG_CHROM = 7,         /* CHROM is not the name given */
     CARD_WRONG_POS = 8,           /* POS is not 1 to 65,535, decimal, without leading zero */
-    CARD_WRONG_REF = 9,           /* REF is not 1 to 64 of A, C, G, T, N */
+    CARD_WRONG_REF = 9,           /* REF is not 1 to 64 of A, C, G, T, N in either case */
     CARD_WRONG_GENOTYPE = 11,     /* FORMAT is not GT and does not begin with GT:, or the sample does not begin with a
                                      genotype of two digits, each at most the number of ALTs, with / or | between */
     CARD_GENOTYPE_ZERO = 12,      /* the genotype is 0/0 */
@@ -79,9 +83,9 @@ enum card_refusal {
                                      are clusters, are judged */
     CARD_NO_ALLELE = 18,          /* no such entry in the list, or an allele number above its number of ALTs */
     CARD_WRONG_SIZE = 20,         /* an allele of ALT is empty or over 64 bytes */
-    CARD_WRONG_BYTE = 21,         /* an allele of ALT has a byte that is none of A, C, G, T, N */
-    CARD_ALT_IS_REF = 22,         /* an allele of ALT is equal to REF */
-    CARD_EQUAL_ALTS = 23          /* the second allele of ALT is equal to the first */
+    CARD_WRONG_BYTE = 21,         /* an allele of ALT has a byte that is no A, C, G, T or N in either case */
+    CARD_ALT_IS_REF = 22,         /* an allele of ALT is equal to REF: the same letters, in either case */
+    CARD_EQUAL_ALTS = 23          /* the second allele of ALT is equal to the first: the same letters, in either case */
 };
 
 /*
@@ -92,7 +96,8 @@ static inline const char *card_refusal_text(uint32_t number)
 {
     switch (number) {
     case 1:
-        return "the reference is not 1 to 65,535 bytes, each A, C, G, T or N; a reference file has one LF behind them";
+        return "the reference is not 1 to 65,535 bytes, each A, C, G, T or N in either case; a reference file has one "
+               "LF behind them";
     case 2:
         return "lent room is too small: plan, marks or entries below 1,024, or the room for a normal text below "
                "the length of the text given";
@@ -110,7 +115,7 @@ static inline const char *card_refusal_text(uint32_t number)
     case 8:
         return "POS is not 1 to 65,535, decimal, without leading zero";
     case 9:
-        return "REF is not 1 to 64 of A, C, G, T, N";
+        return "REF is not 1 to 64 of A, C, G, T, N in either case";
     case 11:
         return "FORMAT does not begin with GT, or the genotype is not two digits, each at most the number of "
                "ALTs, with / or | between";
@@ -131,11 +136,11 @@ static inline const char *card_refusal_text(uint32_t number)
     case 20:
         return "an allele of ALT is empty or over 64 bytes";
     case 21:
-        return "an allele of ALT has a byte that is none of A, C, G, T, N";
+        return "an allele of ALT has a byte that is no A, C, G, T or N in either case";
     case 22:
-        return "an allele of ALT is equal to REF";
+        return "an allele of ALT is equal to REF: the same letters, in either case";
     case 23:
-        return "the second allele of ALT is equal to the first";
+        return "the second allele of ALT is equal to the first: the same letters, in either case";
     case 30:
         return "there is no run, or there are more than 256";
     case 31:
@@ -166,7 +171,8 @@ enum { CARD_BASES_MOST = 65535, CARD_TEXT_MOST = 65536 };
 /*
  * Where an allele of an entry stands. Nothing is written or copied.
  *
- * reference   the bases, without LF
+ * reference   the bases, without LF: A, C, G, T and N, each in upper or lower case. References that differ only in case get the same
+ *             answers of every call
  * name        what CHROM of every record has to be; any bytes
  * text        the list: a version line, other lines that begin with ##, a column line, and 0 to 512 records of ten fields, as
  *             card_refusal has it; ID, QUAL, FILTER and INFO are not read
@@ -175,6 +181,7 @@ enum { CARD_BASES_MOST = 65535, CARD_TEXT_MOST = 65536 };
  *
  * Answered: allele 0 is a part of the reference (list 0), 1 and 2 are parts of the text (list 1). The part begins at offset
  * line, from 0, and is value bytes long; place is 0. No allele is empty, so value is above 0 exactly where the call is answered.
+ * The bytes there are those that were lent, in the case that they have.
  * Refused: 1, 3 to 9, 11 to 15, 20 to 23, and 18 last.
  */
 card_answer card_allele(const uint8_t *reference, size_t reference_count, const uint8_t *name, size_t name_count,
@@ -187,8 +194,9 @@ card_answer card_allele(const uint8_t *reference, size_t reference_count, const 
  * out                     room for the written text, at least as long as the text given
  *
  * Answered: value is how many bytes were written, from the first on; no other byte of out changes. Header lines come first,
- * then the records by new POS, equal POS in the order read. Only POS, REF and ALT are replaced. What is written is accepted by
- * every call, gives the same donors, and written again is itself.
+ * then the records by new POS, equal POS in the order read. Only POS, REF and ALT are replaced, REF and ALT in upper case in every
+ * record; all other fields and the header lines keep their bytes. What is written is accepted by every call, gives the same donors,
+ * and written again is itself.
  * Refused: 1, 2, 3 to 9, 11 to 15, 20 to 23. No byte of out changes.
  */
 card_answer card_normal(const uint8_t *reference, size_t reference_count, const uint8_t *name, size_t name_count,

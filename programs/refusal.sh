@@ -73,7 +73,7 @@ show_file() {
     [ "$(tail -c 1 "$1" | od -An -tx1)" != " 0a" ] || end="ends in LF"
     say "  (it has $size bytes, and $end)"
     [ "${1##*/}" = reference.txt ] || return 0
-    bases=$(LC_ALL=C sed '1s/[^ACGTN].*//;q' "$1" | tr -d '\n' | wc -c)
+    bases=$(LC_ALL=C sed '1s/[^ACGTNacgtn].*//;q' "$1" | tr -d '\n' | wc -c)
     [ "$bases" -lt "$((size - 1))" ] || return 0
     say "  (its byte $((bases + 1)) is no base: $(od -An -c -j "$bases" -N 1 "$1" | sed 's/^ *//; s/^$/a blank/'))"
 }

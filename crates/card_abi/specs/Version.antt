@@ -8,7 +8,7 @@ major = 2
 
 -- the minor part whenever something is added.
 abbrev pub minor : ℕ
-minor = 0
+minor = 1
 
 -- The version: 65,536 times the major part, plus the minor part.
 abbrev pub cardVersion : ℕ

@@ -6,7 +6,7 @@ ghost use Rattle.card_abi.specs.Version.{cardVersion};
 const MAJOR: u32 = 2;
 
 // The minor part, raised whenever something is added.
-const MINOR: u32 = 0;
+const MINOR: u32 = 1;
 
 // The version is so many times the major part, plus the minor part.
 const MINORS: u32 = 65_536;
