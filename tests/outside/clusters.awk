@@ -3,12 +3,13 @@
 #
 # Prints for each cluster whether it is `undecided`; else whether two entries of one list `overlap`; else whether all entries of list 1 and all
 # of list 2 give the `same` donors, or the same with the copies of list 2 exchanged, or whether they `differ`; then how many entries it has, how
-# many are marked 0, whether one has two ALTs, whether the lists write it otherwise, and how each does.
+# many are marked 0, whether one has two ALTs, whether the lists write it otherwise, and how each does. All bases are taken in upper case.
 BEGIN { FS = OFS = "\t" }
 FNR == 1 { file++ }
-file == 1 { bases = $0; next }
+file == 1 { bases = toupper($0); next }
 file < 4 && /^#/ { next }
 file < 4 {
+    $4 = toupper($4); $5 = toupper($5)
     number = ++records[file - 1]
     pos[file - 1, number] = $2; reference[file - 1, number] = $4
     split($4 "," $5, alleles, ",")

@@ -1,7 +1,7 @@
 # windows.awk   makes card windows of real records:  awk -v folder=DIR -v flank=N -v most=N -f windows.awk RECORDS
 #
 # A record is a TAB-separated line: the FASTA that it is about, its list, CHROM, POS, REF, ALT, and GT, which is `sites` in a list without sample.
-# A list's records stand together, by CHROM and POS. A window has at most as many bases as a card takes, and `most` records. Its reference is
+# A list's records stand together, by CHROM and POS. Bases keep the case that they have there. A window has at most as many bases as a card takes, and `most` records. Its reference is
 # made of stretches of the real ones, each with `flank` bases on both sides of the records of one list, one behind the other; POS is that
 # on this reference, and ID the line's number. DIR/NUMBER gets reference.txt, reference.fa and first.vcf, DIR/left-out a line for each record
 # that a card does not take, with why.
@@ -35,25 +35,25 @@ function bases_of(contig, from, to,    number, skipped, bases) {
     number = int((from - 1) / width[contig])
     skipped = number * width[contig]
     while (skipped + length(bases) < to) bases = bases line[contig, number++]
-    return toupper(substr(bases, from - skipped, to - from + 1))
+    return substr(bases, from - skipped, to - from + 1)
 }
 
 # Why a card does not take the record, or nothing. Sets the stretch around it.
 function reason(    count, i, end) {
-    if (reference !~ /^[ACGTN]+$/ || alt !~ /^[ACGTN,]+$/) return "alleles that are no bases"
-    count = split(alt, alts, ",")
+    if (reference !~ /^[ACGTNacgtn]+$/ || alt !~ /^[ACGTNacgtn,]+$/) return "alleles that are no bases"
+    count = split(toupper(alt), alts, ",")
     if (count > 2) return "more than two ALTs"
     if (length(reference) > ALLELE_MOST) return "long alleles"
     for (i = 1; i <= count; i++) if (length(alts[i]) > ALLELE_MOST) return "long alleles"
-    if (alts[1] == reference || alts[2] == reference || alts[1] == alts[2]) return "equal alleles"
+    if (alts[1] == toupper(reference) || alts[2] == toupper(reference) || alts[1] == alts[2]) return "equal alleles"
     if (genotype == "sites") genotype = count == 1 ? "0/1" : "1/2"
     if (genotype !~ /^[0-2][\/|][0-2]$/ || substr(genotype, 1, 1) > count || substr(genotype, 3) > count) return "no genotype of two digits"
     if (genotype ~ /^0.0$/) return "genotype 0/0"
     end = pos + length(reference) - 1
-    if (end > long[contig] || bases_of(contig, pos, end) != reference) return "another reference"
+    if (end > long[contig] || toupper(bases_of(contig, pos, end)) != toupper(reference)) return "another reference"
     start = pos - flank < 1 ? 1 : pos - flank
     to = end + flank > long[contig] ? long[contig] : end + flank
-    if (bases_of(contig, start, to) !~ /^[ACGTN]+$/) return "other letters near by"
+    if (bases_of(contig, start, to) !~ /^[ACGTNacgtn]+$/) return "other letters near by"
     return ""
 }
 
@@ -74,7 +74,7 @@ function close_window(    path) {
 
 $1 != fasta { load($1); fasta = $1 }
 {
-    contig = contig_of($3); pos = $4; reference = toupper($5); alt = toupper($6); genotype = $7
+    contig = contig_of($3); pos = $4; reference = $5; alt = $6; genotype = $7
     why = reason()
     if (why != "") { print $2, why >(folder "/left-out"); next }
 
