@@ -17,8 +17,8 @@ run_in() { (cd "$1" && "$OLDPWD/tests/run" "$OLDPWD/target/bin/$2"); }
 # norm FOLDER LIST: the list as `bcftools norm -f` writes it
 norm() { bcftools norm -f "$1/reference.fa" "$1/$2.vcf" 2>"$1/$2.log" || { cat "$1/$2.log" >&2 && return 1; }; }
 
-# lay_pair SEED FOLDER [masked]: draws two lists, soft-masked or in upper case, and writes to FOLDER/entries what compare says of each entry, in merged order:
-# cluster, list, mark, ID, POS, REF, ALT and genotype, TAB-separated.
+# lay_pair SEED FOLDER [masked]: draws two lists, soft-masked or in upper case, and writes to FOLDER/entries what compare says of each
+# entry, in merged order: cluster, list, mark, ID, POS, REF, ALT and genotype, TAB-separated.
 lay_pair() {
     mkdir "$2"
     tests/second/target/release/outside_pair "$@"

@@ -1,10 +1,10 @@
 # windows.awk   makes card windows of real records:  awk -v folder=DIR -v flank=N -v most=N -f windows.awk RECORDS
 #
 # A record is a TAB-separated line: the FASTA that it is about, its list, CHROM, POS, REF, ALT, and GT, which is `sites` in a list without sample.
-# A list's records stand together, by CHROM and POS. Bases keep the case that they have there. A window has at most as many bases as a card takes, and `most` records. Its reference is
-# made of stretches of the real ones, each with `flank` bases on both sides of the records of one list, one behind the other; POS is that
-# on this reference, and ID the line's number. DIR/NUMBER gets reference.txt, reference.fa and first.vcf, DIR/left-out a line for each record
-# that a card does not take, with why.
+# A list's records stand together, by CHROM and POS. Bases keep the case that they have there. A window has at most as many bases as a
+# card takes, and `most` records. Its reference is made of stretches of the real ones, each with `flank` bases on both sides of the
+# records of one list, one behind the other; POS is that on this reference, and ID the line's number. DIR/NUMBER gets reference.txt,
+# reference.fa and first.vcf, DIR/left-out a line for each record that a card does not take, with why.
 BEGIN { FS = OFS = "\t"; BASES_MOST = 65535; ALLELE_MOST = 64 }
 
 # One name for chr1 and 1, and for NC_007795 and gi|88193823|ref|NC_007795.1|.

@@ -1,6 +1,6 @@
-//! Request b: two bases are equal if they are the same letter in either case, in reference, REF and ALT alike; what is written of them is in
-//! upper case, what is carried keeps its bytes, and all else is compared as it was. Refused lines stand with their rows,
-//! what is written in written_lists.rs.
+//! Request b: two bases are equal if they are the same letter in either case, in reference, REF and ALT alike; what is written of them is
+//! in upper case, what is carried keeps its bytes, and all else is compared as it was. Refused lines stand with their rows, what is
+//! written in written_lists.rs.
 
 mod common;
 

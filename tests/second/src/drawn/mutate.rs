@@ -106,7 +106,8 @@ fn put(random: &mut Random, bytes: &mut Vec<u8>, place: usize, piece: &[u8]) {
 }
 
 /// A cell of the line at the place, which a TAB or a comma ends, comes in the place of one of the next two, or behind it or itself with a
-/// comma between; or a comma alone stands before or behind it; or it becomes 64 bytes long, or one more. Its letters may have another case then.
+/// comma between; or a comma alone stands before or behind it; or it becomes 64 bytes long, or one more. Its letters may have another
+/// case then.
 fn change_a_cell(random: &mut Random, bytes: &mut Vec<u8>, place: usize) {
     let cells = cells(bytes, place);
     let number = random.below(cells.len());
