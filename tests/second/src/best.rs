@@ -46,7 +46,7 @@ fn step(choices: &mut [Choice]) -> bool {
     false
 }
 
-/// No spans overlap within a list, and the lists' donors are equal on copy 0 and on copy 1.
+/// Within a list nothing overlaps on a copy, and the lists' donors are equal on copy 0 and on copy 1.
 pub fn is_legal(reference: &[u8], lists: Lists, items: &[Item], choices: &[Choice]) -> bool {
     let [first, second] = [0, 1].map(|list| choices_of(list, items, choices));
     let donors_equal = |copy| {

@@ -1,4 +1,4 @@
-//! The comparison card, written a second time from document 01, requests a, b and d and include/card.h alone.
+//! The comparison card, written a second time from document 01, requests a, b, c and d and include/card.h alone.
 //!
 //! It exists to be compared with: each rule stands once, in document 01's words, and the two places
 //! that matter most, the best pair and the normal form, stand twice, by definition and by a search

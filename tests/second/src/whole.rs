@@ -3,14 +3,17 @@
 use crate::drive::at_allele::at_allele;
 use crate::drive::draw::names::Given;
 use crate::drive::lower_case::has_lower;
+use crate::drive::room::{found_in_all, OPPOSITE};
 use crate::part::{LF, TAB};
+use crate::programs::NAME;
 use std::collections::BTreeMap;
 use std::ffi::OsStr;
 use std::os::unix::ffi::OsStrExt;
 use std::path::Path;
 use std::process::{Command, Stdio};
 
-/// One in so many folders, at least, is to be accepted, and one in so many refused.
+/// One in so many folders, at least, is to be accepted, and one in so many refused. Of those accepted one in so many is to have
+/// overlapping entries chosen on opposite copies, where a program marks.
 const ONCE_IN: u64 = 10;
 
 /// What of a folder with lists is in lower case.
@@ -38,7 +41,7 @@ pub struct Held {
     /// How often each kind was to be printed: `refused`, number, list and allele of ALT, or what is told of an accepted folder.
     kinds: BTreeMap<String, u64>,
     /// How often each kind of name was given, to be answered and to be refused; and of folders with lists that were to be answered, what
-    /// of the reference and of list 1 was in lower case.
+    /// of the reference and of list 1 was in lower case, and what overlap did in the marks.
     given: BTreeMap<String, u64>,
 }
 
@@ -85,8 +88,9 @@ impl Held {
             Some(refusal) => (refusal, "refused"),
             None => {
                 self.accepted += 1;
-                for lower in lower_case(files) {
-                    *self.given.entry(format!("{lower} answered")).or_default() += 1;
+                let name = given.and_then(|given| given.name.as_deref()).unwrap_or(NAME);
+                for what in lower_case(files).into_iter().chain(overlap(files, name)) {
+                    *self.given.entry(format!("{what} answered")).or_default() += 1;
                 }
                 (kind(expected), "answered")
             }
@@ -98,17 +102,22 @@ impl Held {
         }
     }
 
-    /// Whether nothing differs, folders of both sorts are not rare, and each kind of `demanded` is there.
+    /// Whether nothing differs, folders of both sorts are not rare, and nothing of `demanded` is missing.
     pub fn is_good(&self, demanded: &[impl AsRef<str>]) -> bool {
         let least = self.folders / ONCE_IN;
         let are_of_both = self.accepted >= least && self.folders - self.accepted >= least;
         self.differences == 0 && are_of_both && self.missing(demanded).is_empty()
     }
 
-    /// The kinds of `demanded` that are not there.
+    /// The kinds of `demanded` that are not there; and entries chosen on opposite copies, where they are rare among what is accepted.
     pub fn missing<'a>(&self, demanded: &'a [impl AsRef<str>]) -> Vec<&'a str> {
-        let is_there = |kind: &str| self.kinds.contains_key(kind) || self.given.contains_key(kind);
-        demanded.iter().map(AsRef::as_ref).filter(|kind| !is_there(kind)).collect()
+        let count =
+            |kind: &str| self.kinds.get(kind).or(self.given.get(kind)).copied().unwrap_or(0);
+        let least = |kind: &str| match kind.starts_with(OPPOSITE) {
+            true => (self.accepted / ONCE_IN).max(1),
+            false => 1,
+        };
+        demanded.iter().map(AsRef::as_ref).filter(|kind| count(kind) < least(kind)).collect()
     }
 
     pub fn tell(&self, program: &str, seed: u64) {
@@ -117,7 +126,7 @@ impl Held {
             counted(&self.kinds)
         );
         if !self.given.is_empty() {
-            println!("names given, and lower case: {}", counted(&self.given));
+            println!("names given, lower case, and overlap: {}", counted(&self.given));
         }
         let Held { folders, accepted, differences, .. } = self;
         println!(
@@ -137,6 +146,15 @@ fn lower_case(files: &[File]) -> Vec<&'static str> {
         [(_, false), (_, false)] => vec![LOWER[0]],
         _ => found.into_iter().filter(|(_, is_so)| *is_so).map(|(what, _)| what).collect(),
     }
+}
+
+/// What overlap does in the marks, where the folder has two lists that are accepted.
+fn overlap(files: &[File], name: &[u8]) -> Vec<&'static str> {
+    let [(_, Some(reference)), (_, Some(first)), (_, Some(second))] = files else {
+        return Vec::new();
+    };
+    let bases = reference.strip_suffix(&[LF]).unwrap_or_default();
+    found_in_all(bases, name, [first, second])
 }
 
 fn counted(kinds: &BTreeMap<String, u64>) -> String {

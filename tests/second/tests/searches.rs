@@ -2,22 +2,9 @@
 
 mod common;
 
-use common::lists::entry;
 use common::random::Random;
+use common::searched::{assert_same, marks};
 use common::world::World;
-use second::best::{best, is_legal, Best};
-use second::best_pruned::best_pruned;
-use second::choice::{score, Choice};
-use second::merged::merged;
-use second::Entry;
-
-fn assert_same(reference: &[u8], lists: [&[Entry]; 2]) -> Best {
-    let found = best_pruned(reference, lists);
-    assert_eq!(found, best(reference, lists));
-    assert!(is_legal(reference, lists, &merged(lists), &found.choices));
-    assert_eq!(score(&found.choices), found.score);
-    found
-}
 
 #[test]
 fn both_searches_find_the_same_pair_for_up_to_9_entries() {
@@ -51,13 +38,6 @@ fn both_searches_find_the_same_pair_for_10_to_12_entries() {
             return;
         }
     }
-}
-
-/// The marks of short records.
-fn marks(reference: &str, first: &[&str], second: &[&str]) -> String {
-    let lists = [first, second].map(|list| list.iter().map(|one| entry(one)).collect::<Vec<_>>());
-    let best = assert_same(reference.as_bytes(), lists.each_ref().map(Vec::as_slice));
-    best.choices.into_iter().map(|choice| char::from(Choice::mark(choice))).collect()
 }
 
 #[test]

@@ -9,7 +9,8 @@ use common::seen::Seen;
 use common::world::World;
 use second::best::best;
 use second::choice::Choice;
-use second::merged::merged;
+use second::donor::overlap;
+use second::merged::{merged, Item};
 
 const CASES: u64 = 12_000;
 
@@ -44,10 +45,22 @@ fn note(seen: &mut Seen, world: &World, choices: &[Choice], plan: &[(u32, u32)])
     seen.note("a match in list 1 alone", chosen > 0 && second.is_empty());
     seen.note("a match in list 2 alone", chosen > 0 && first.is_empty());
     seen.note("copies exchanged", choices.contains(&Choice::Minus));
+    seen.note("overlapping entries of a list on opposite copies", has_opposite(world, choices));
     seen.note("entries left out beside a match", chosen > 0 && chosen < choices.len());
     seen.note("no match", chosen == 0 && entries().count() > 1);
     seen.note("two ALTs", entries().any(|entry| entry.alts.len() == 2));
     seen.note("an N", world.reference.contains(&b'N'));
+}
+
+/// Whether two chosen entries of one list overlap.
+fn has_opposite(world: &World, choices: &[Choice]) -> bool {
+    let items = merged(world.lists()).into_iter().zip(choices);
+    let chosen: Vec<Item> =
+        items.filter(|(_, choice)| choice.is_chosen()).map(|(item, _)| item).collect();
+    let are_so = |one: &Item, other: &Item| {
+        one.list == other.list && overlap(one.of(world.lists()), other.of(world.lists()))
+    };
+    (0..chosen.len()).any(|last| chosen[..last].iter().any(|one| are_so(one, &chosen[last])))
 }
 
 /// POS, REF and ALT of a list's chosen entries.

@@ -1,10 +1,10 @@
 //! `outside_pair SEED FOLDER [masked]` draws two lists on one reference for program compare and for bcftools, and writes to FOLDER reference.txt,
 //! first.vcf and second.vcf, and reference.fa, the same bases in bcftools' form.
 //!
-//! The reference has no N. It is made of small worlds, one behind the other, with drawn bases between, so that mostly each world gives
-//! a cluster or more; it begins and ends with a world. One world in three is a repeat with one change, which each list writes
-//! somewhere in it. With `masked` stretches of the reference are in lower case, and each entry writes its alleles as they are there, in upper
-//! case, in lower case, or in any.
+//! The reference has no N. It is made of small worlds, one behind the other, with drawn bases between, so that mostly each world gives a
+//! cluster or more; it begins and ends with a world. One world in three is a repeat with one change, which each list writes somewhere in
+//! it; in one in four, or more, entries of a list overlap, on opposite copies and on the same one. With `masked` stretches of the
+//! reference are in lower case, and each entry writes its alleles as they are there, in upper case, in lower case, or in any.
 
 use second::drawn::lists::contig_text;
 use second::drawn::masked::{mask_entry, stretches, write};
@@ -54,7 +54,11 @@ fn main() -> ExitCode {
 fn joined_worlds(random: &mut Random) -> World {
     let mut joined = World { reference: vec![], lists: [vec![], vec![]] };
     while joined.lists.iter().all(|list| list.len() < RECORDS_ENOUGH) {
-        let world = if random.once_in(3) { repeat_world(random) } else { world_without_n(random) };
+        let world = match random.below(12) {
+            0..=3 => repeat_world(random),
+            4..=6 => without_n(random, World::overlapping),
+            _ => without_n(random, World::new),
+        };
         if !joined.reference.is_empty() {
             joined.reference.extend(any_bases(random, BETWEEN));
         }
@@ -71,9 +75,9 @@ fn any_bases(random: &mut Random, count: usize) -> Vec<u8> {
     (0..count).map(|_| *random.pick(b"ACGT")).collect()
 }
 
-fn world_without_n(random: &mut Random) -> World {
+fn without_n(random: &mut Random, draw: fn(&mut Random, usize) -> World) -> World {
     loop {
-        let world = World::new(random, ENTRIES_MOST);
+        let world = draw(random, ENTRIES_MOST);
         let mut entries = world.lists.iter().flatten();
         let has_n = |bases: &[u8]| bases.contains(&b'N');
         if !has_n(&world.reference) && !entries.any(|entry| entry.alleles().any(has_n)) {

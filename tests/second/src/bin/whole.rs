@@ -6,6 +6,7 @@ use second::drive::at_allele::AT_ALLELES;
 use second::drive::draw::folders::{folder, named_folder, FILES};
 use second::drive::draw::names::Given;
 use second::drive::draw::runs::{self, runs_file};
+use second::drive::room::OF_MARKS;
 use second::programs::NAME;
 use second::whole::{hold, Folder, LOWER};
 use std::process::ExitCode;
@@ -25,7 +26,8 @@ const GIVEN: [&str; 6] = [
 ];
 
 /// A program by its name: its folder of a seed and number, the kind of something that it prints, and the kinds that are demanded, of
-/// a program that reads lists among them each fault of an allele of ALT in each list, and what is in lower case.
+/// a program that reads lists among them each fault of an allele of ALT in each list, and what is in lower case; of one that marks them
+/// also what overlap does.
 struct Program {
     draw: Box<dyn Fn(u64, u64) -> Folder>,
     kind: fn(&str) -> String,
@@ -47,7 +49,7 @@ fn main() -> ExitCode {
     held.tell(&arguments[0], seed);
     let missing = held.missing(&program.demanded);
     if !missing.is_empty() {
-        println!("whole: no folder came to: {}", missing.join(", "));
+        println!("whole: no folder, or too few, came to: {}", missing.join(", "));
     }
     match held.is_good(&program.demanded) {
         true => ExitCode::SUCCESS,
@@ -57,18 +59,18 @@ fn main() -> ExitCode {
 
 fn parsed(arguments: &[String], is_named: bool) -> Option<(Program, u64, u64, &[String])> {
     let [program, count, seed, command @ ..] = arguments else { return None };
-    let of_lists = |print, kind, lists| {
+    let of_lists = |print, kind, lists, of_marks: &[&str]| {
         let draw = Box::new(move |seed, number| of_two_lists(seed, number, is_named, print));
         let given: &[&str] = if is_named { &GIVEN } else { &[] };
-        let lower = LOWER.map(|lower| format!("{lower} answered"));
-        let given = given.iter().map(ToString::to_string).chain(lower);
+        let answered = LOWER.iter().chain(of_marks).map(|what| format!("{what} answered"));
+        let given = given.iter().map(ToString::to_string).chain(answered);
         let demanded = given.chain(at_alleles(lists)).collect();
         Program { draw, kind, demanded }
     };
     let program = match program.as_str() {
-        "compare" => of_lists(second::compare, of_table, 2),
-        "counts" => of_lists(second::counts, of_counts, 2),
-        "normalise" => of_lists(normalise, of_text, 1),
+        "compare" => of_lists(second::compare, of_table, 2, &OF_MARKS),
+        "counts" => of_lists(second::counts, of_counts, 2, &OF_MARKS),
+        "normalise" => of_lists(normalise, of_text, 1, &[]),
         "lot_report" if !is_named => {
             let demanded = REFUSED_LOTS.map(String::from).to_vec();
             Program { draw: Box::new(reported), kind: of_report, demanded }

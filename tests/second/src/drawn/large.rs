@@ -2,7 +2,7 @@
 //!
 //! Mostly they lie on a repeat. Each takes units of it away or adds some, so that it gives the same donor
 //! wherever it stands there, and no gap is cut, however long. There is little to search in a cluster of 12:
-//! its entries stand in heaps, of which one can be chosen, or all of them match as written.
+//! its entries stand in heaps, of which one can be chosen, or two on opposite copies, or all of them match as written.
 
 use super::list::ALLELE_MOST;
 use super::random::Random;

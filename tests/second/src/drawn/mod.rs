@@ -1,7 +1,8 @@
 //! What is drawn at random, for the tests of this package and for `drive`.
 //!
 //! - `random` gives numbers from a seed, `lists` makes texts of short records
-//! - `world` draws small references with two lists, of which `rewritten` makes the second from the first
+//! - `world` draws small references with two lists, of which `rewritten` makes the second from the first, or `opposite`
+//!   draws both, with entries that overlap on the same copy and on opposite ones
 //! - `repeats` draws repeats and entries in them, `large` clusters with long alleles and on long stretches
 //! - `list` draws one list in all its variety, `sizes` one of the sizes where the rules change, `pairs`
 //!   two lists on one reference; `masked` puts bases of these into lower case, `cased` all bases of a full card
@@ -17,6 +18,7 @@ pub mod list;
 pub mod lists;
 pub mod masked;
 pub mod mutate;
+pub mod opposite;
 pub mod pairs;
 pub mod random;
 pub mod repeats;

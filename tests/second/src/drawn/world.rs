@@ -1,9 +1,13 @@
 //! Small random references with two lists. Repeats are common, so that entries can be written in
 //! several ways, and most of the second list is the first, written in another way.
 
+use super::opposite::opposite_lists;
 use super::random::Random;
 use super::rewritten::rewritten;
 use crate::Entry;
+
+/// In one of so many worlds, many entries of a list overlap.
+const OVERLAPPING: usize = 4;
 
 pub struct World {
     pub reference: Vec<u8>,
@@ -13,19 +17,24 @@ pub struct World {
 impl World {
     /// A world with at most `most` entries in both lists together.
     pub fn new(random: &mut Random, most: usize) -> World {
-        let reference = random_reference(random);
-        let mut first: Vec<Entry> = (0..random.between(0, most.div_ceil(2)))
-            .map(|_| random_entry(random, &reference))
-            .collect();
-        if random.once_in(8) {
-            first.truncate(first.len().saturating_sub(2));
-            first.extend(undone(random, &reference));
+        if random.once_in(OVERLAPPING) {
+            return World::overlapping(random, most);
         }
-        first.sort_by_key(|entry| entry.pos);
-        let mut second = match random.once_in(8) {
-            true => Vec::new(),
-            false => rewritten(random, &reference, &first),
-        };
+        let reference = random_reference(random);
+        let lists = any_lists(random, &reference, most);
+        World::of(random, reference, lists, most)
+    }
+
+    /// The same where many entries of a list overlap.
+    pub fn overlapping(random: &mut Random, most: usize) -> World {
+        let reference = random_reference(random);
+        let lists = opposite_lists(random, &reference, most);
+        World::of(random, reference, lists, most)
+    }
+
+    /// With any entries more in the second list, or fewer, and with either list first.
+    fn of(random: &mut Random, reference: Vec<u8>, lists: [Vec<Entry>; 2], most: usize) -> World {
+        let [first, mut second] = lists;
         while random.once_in(3) {
             second.push(random_entry(random, &reference));
         }
@@ -40,6 +49,22 @@ impl World {
     pub fn lists(&self) -> [&[Entry]; 2] {
         self.lists.each_ref().map(Vec::as_slice)
     }
+}
+
+/// Any entries, and the same written in another way, or none.
+fn any_lists(random: &mut Random, reference: &[u8], most: usize) -> [Vec<Entry>; 2] {
+    let mut first: Vec<Entry> =
+        (0..random.between(0, most.div_ceil(2))).map(|_| random_entry(random, reference)).collect();
+    if random.once_in(8) {
+        first.truncate(first.len().saturating_sub(2));
+        first.extend(undone(random, reference));
+    }
+    first.sort_by_key(|entry| entry.pos);
+    let second = match random.once_in(8) {
+        true => Vec::new(),
+        false => rewritten(random, reference, &first),
+    };
+    [first, second]
 }
 
 /// 3 to 120 bases: a unit repeated with a base changed here and there, or bases of a small alphabet.
@@ -59,6 +84,11 @@ pub fn random_reference(random: &mut Random) -> Vec<u8> {
 /// Any entry on the reference: one or two ALTs, any genotype but 0/0.
 pub fn random_entry(random: &mut Random, reference: &[u8]) -> Entry {
     let start = random.below(reference.len());
+    entry_from(random, reference, start)
+}
+
+/// The same with this start.
+pub fn entry_from(random: &mut Random, reference: &[u8], start: usize) -> Entry {
     let length = random.between(1, (reference.len() - start).min(4));
     let replaced = reference[start..start + length].to_vec();
     let mut alts = vec![random_alt(random, reference, start, length)];

@@ -1,7 +1,7 @@
 //! What a call that is not refused did: by which of these an answer is of its kind.
 
 use super::case::{Call, Case};
-use super::large;
+use super::{large, room};
 use crate::bases::folded;
 use crate::card::ENTRIES_MOST;
 use crate::normal_loop::normal_loop;
@@ -90,6 +90,20 @@ fn marked(case: &Case, texts: &[Vec<u8>; 2]) -> &'static str {
 fn planned(case: &Case, texts: &[Vec<u8>; 2]) -> &'static str {
     let plan = left_plan(case);
     large::planned(case, texts, &plan).unwrap_or(OF_PLAN[clusters(plan.len())].1)
+}
+
+/// What overlap does in the marks that an answered call left.
+pub fn of_marks(case: &Case) -> Vec<&'static str> {
+    let (texts, plan, marks) = match &case.call {
+        _ if case.expected.answer.number != 0 => return Vec::new(),
+        Call::Mark { texts, plan, cluster, .. } => {
+            (texts, vec![plan[*cluster]], &case.expected.left[0])
+        }
+        Call::MarkAll { texts, .. } => (texts, left_plan(case), &case.expected.left[1]),
+        _ => return Vec::new(),
+    };
+    let texts = texts.each_ref().map(Vec::as_slice);
+    room::found(&case.reference, &case.name, texts, &plan, marks)
 }
 
 /// The records of the plan that an answered call left.

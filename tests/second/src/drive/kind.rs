@@ -6,6 +6,7 @@ use super::case::{Answer, Call, Case};
 use super::draw::{Asked, CALLS};
 use super::large;
 use super::lower_case::{all_beside, beside};
+use super::room;
 use std::fmt::{self, Display};
 
 /// The call, the number and list of its answer and, where it is not refused, what it did; where it is refused for ALT, at which allele.
@@ -64,22 +65,28 @@ fn kinds_of_small_lists() -> Vec<Kind> {
     CALLS.into_iter().flat_map(|(_, call)| kinds(call)).filter(is_small).collect()
 }
 
-/// What lower case does in the calls of a run, each told as a kind.
+/// What lower case and overlap do in the calls of a run, each told as a kind.
 pub fn kinds_beside(asked: Asked) -> Vec<Kind> {
     if asked == Asked::Mutated {
         return CALLS.into_iter().flat_map(|(_, call)| kinds_beside(call)).collect();
     }
     let (call, .., lists) = of_call(asked);
+    let of_marks: &[&str] = match asked {
+        Asked::Mark | Asked::MarkAll => &room::OF_MARKS,
+        _ => &[],
+    };
+    let of_marks = of_marks.iter().map(|what| (0, 0, *what));
     let kind = |(number, list, what)| Kind { call, number, list, what };
-    all_beside(asked, lists).into_iter().map(kind).collect()
+    all_beside(asked, lists).into_iter().chain(of_marks).map(kind).collect()
 }
 
 impl Kind {
-    /// What lower case does in the case.
+    /// What lower case and overlap do in the case.
     pub fn beside(case: &Case) -> Vec<Kind> {
         let call = Kind::of(case).call;
         let kind = |(number, list, what)| Kind { call, number, list, what };
-        beside(case).into_iter().map(kind).collect()
+        let of_marks = of_marks(case).into_iter().map(|what| (0, 0, what));
+        beside(case).into_iter().chain(of_marks).map(kind).collect()
     }
 
     pub fn of(case: &Case) -> Kind {

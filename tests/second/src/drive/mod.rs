@@ -7,7 +7,8 @@
 //! - `frame` is what is sent to the driver for a case, and what it tells
 //! - `pipe` sends the cases to the driver and takes its answers
 //! - `kind` says what kind of answer a case has, with `answered` and `large` for what was done, and `at_allele` for the
-//!   allele that a refusal is told at; `lower_case` says what lower case does in it, with `by_bytes` for what it decides
+//!   allele that a refusal is told at; `lower_case` says what lower case does in it, with `by_bytes` for what it decides, and `room`
+//!   what overlapping entries do
 //! - `tally` counts the kinds that were answered and keeps the smallest differences
 
 mod answered;
@@ -21,4 +22,5 @@ pub mod kind;
 mod large;
 pub mod lower_case;
 pub mod pipe;
+pub mod room;
 pub mod tally;

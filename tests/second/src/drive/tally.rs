@@ -3,6 +3,7 @@
 use super::case::{Case, Told};
 use super::draw::Asked;
 use super::kind::{kinds, kinds_beside, Kind};
+use super::room::OF_MARKS;
 use std::collections::BTreeMap;
 use std::fmt::{self, Display};
 
@@ -10,6 +11,10 @@ use std::fmt::{self, Display};
 /// which does not aim at any.
 const ONCE_IN: u64 = 2_000;
 const ONCE_IN_MUTATED: u64 = 100_000;
+
+/// What overlap does is to come up more often: in a call that marks, and where bytes are changed.
+const OVERLAP_ONCE_IN: u64 = 60;
+const OVERLAP_ONCE_IN_MUTATED: u64 = 5_000;
 
 /// So many differences are shown, the smallest ones.
 const SHOWN: usize = 3;
@@ -22,7 +27,7 @@ const LINES_SHOWN: usize = 40;
 pub struct Tally {
     pub cases: u64,
     pub differences: u64,
-    /// How often each kind was answered, and each of those that lower case adds.
+    /// How often each kind was answered, and each of those that lower case and overlap add.
     kinds: BTreeMap<Kind, u64>,
     /// Of differences one behind the other only the first: the others may follow from it, where a
     /// buffer is lent as it was left.
@@ -54,13 +59,20 @@ impl Tally {
         self.smallest.truncate(SHOWN);
     }
 
-    /// The kinds of the call that were answered too rarely for so many calls to have tried them, and what lower case did too rarely.
+    /// The kinds of the call that were answered too rarely for so many calls to have tried them, and what lower case and overlap
+    /// did too rarely.
     pub fn rare_kinds(&self, asked: Asked) -> Vec<String> {
         let kinds = kinds(asked);
         let count = |kind: &Kind| self.kinds.get(kind).copied().unwrap_or(0);
         let all: u64 = kinds.iter().map(count).sum();
-        let once_in = if asked == Asked::Mutated { ONCE_IN_MUTATED } else { ONCE_IN };
-        let is_rare = |kind: &&Kind| count(kind) < all / once_in;
+        let [once_in, overlap_once_in] = match asked {
+            Asked::Mutated => [ONCE_IN_MUTATED, OVERLAP_ONCE_IN_MUTATED],
+            _ => [ONCE_IN, OVERLAP_ONCE_IN],
+        };
+        let is_rare = |kind: &&Kind| match OF_MARKS.contains(&kind.what) {
+            true => count(kind) < all / overlap_once_in,
+            false => count(kind) < all / once_in,
+        };
         kinds.iter().chain(&kinds_beside(asked)).filter(is_rare).map(Kind::to_string).collect()
     }
 }
@@ -75,7 +87,7 @@ impl Display for Tally {
         let kinds = kinds.join(", ");
         writeln!(
             out,
-            "answers by call, and by number/list and allele of ALT where refused, and what lower case did: {kinds}"
+            "answers by call, and by number/list and allele of ALT where refused, and what lower case and overlap did: {kinds}"
         )
     }
 }

@@ -2,6 +2,7 @@
 //!
 //! - `calls` makes calls and watches the lent memory
 //! - `refused` makes every call refuse a text, `rows` says when a row of the table holds
+//! - `searched` makes both searches
 //! - `seen` counts what the random cases came upon
 //! - what is drawn at random comes from the library, which draws it for `drive` too
 
@@ -11,6 +12,7 @@
 pub mod calls;
 pub mod refused;
 pub mod rows;
+pub mod searched;
 pub mod seen;
 
 pub use second::drawn::{damage, lists, random, world};

@@ -5,6 +5,7 @@ use crate::bases::folded;
 use crate::best::is_legal;
 use crate::choice::Choice;
 use crate::clusters::{clusters, lists_of, DECIDED_MOST};
+use crate::donor::carried;
 use crate::merged::{merged, Lists};
 use crate::{Cluster, Entry};
 
@@ -30,7 +31,7 @@ pub fn strings(two: &TwoLists) -> Vec<usize> {
             return 0;
         }
         let lists = lists_of(lists, &items, *cluster);
-        let strings = lists.map(|list| strings_from(list, 0)).iter().product();
+        let strings = lists.map(|list| strings_from(list, [0, 0])).iter().product();
         match strings > STRINGS_MOST && all_match(bases, lists) {
             true => 1,
             false => strings,
@@ -45,12 +46,17 @@ fn all_match(bases: &[u8], lists: Lists) -> bool {
     is_legal(bases, lists, &items, &vec![Choice::Plus; items.len()])
 }
 
-/// The strings of choices for entries of one list, none of which may start before `end`.
-fn strings_from(entries: &[Entry], end: usize) -> usize {
+/// The strings of choices for entries of one list: on each copy none takes room that starts before its end of `ends`.
+fn strings_from(entries: &[Entry], ends: [usize; 2]) -> usize {
     let Some((entry, rest)) = entries.split_first() else { return 1 };
-    let left_out = strings_from(rest, end);
-    match entry.start() >= end {
-        true => left_out + 2 * strings_from(rest, entry.end()),
-        false => left_out,
-    }
+    let with = |choice: &Choice| {
+        let takes_room = [0, 1].map(|copy| carried(entry, *choice, copy).is_some());
+        let overlaps = |copy: usize| takes_room[copy] && entry.start() < ends[copy];
+        if overlaps(0) || overlaps(1) {
+            return 0;
+        }
+        let end = |copy: usize| if takes_room[copy] { entry.end() } else { ends[copy] };
+        strings_from(rest, [end(0), end(1)])
+    };
+    Choice::BY_RANK.iter().map(with).sum()
 }
