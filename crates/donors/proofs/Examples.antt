@@ -3,7 +3,7 @@
 --     example-9     one change of four bases, and a deletion and an insertion, give one donor
 --     example-10    a het entry under `+` and under `-`
 -- Assumes nothing.
-use mathlib.Core.Bool.{true}
+use mathlib.Core.Bool.{true, false}
 use mathlib.Core.List.{List, [], _∷_}
 use mathlib.Core.Path.{_≡_, refl}
 use Prim.Native.Nat.{ℕ}
@@ -35,7 +35,7 @@ example-9 = (refl, refl)
 -- GAC, POS 2 A to C, 0/1: GCC stands on copy 1 under `+` and on copy 0 under `-`.
 pub example-10 :
     let R : List ℕ = 71 ∷ 65 ∷ 67 ∷ [] in
-    let x : Variant = record { side = list1; start = 1; len = 1; weight = 1; room0 = true; allele0 = 65 ∷ []; room1 = true; allele1 = 67 ∷ [] } in
+    let x : Variant = record { side = list1; start = 1; len = 1; weight = 1; room0 = false; allele0 = 65 ∷ []; room1 = true; allele1 = 67 ∷ [] } in
     (donorOf cardRules R list1 copy1 (x ∷ []) (plus ∷ []) ≡ 71 ∷ 67 ∷ 67 ∷ []) × (donorOf cardRules R list1 copy0 (x ∷ []) (minus ∷ []) ≡ 71 ∷ 67 ∷ 67 ∷ [])
 unfolding donorFrom edits
 example-10 = (refl, refl)

@@ -15,7 +15,7 @@ pub record Ready (reference first second t : List ℕ) (n : ℕ) : Type 0 where
   pub few : n ≤ most
   pub sound : (i : ℕ) → i < n → Sound reference (pick (rowAt t i .first) first second) (rowAt t i)
 
--- On copy h no two chosen spans of a list overlap.
+-- On copy h no two spans overlap that entries of a list take there.
 abbrev pub ApartOn : (reference first second t φ : List ℕ) → Copy → ℕ → Type 0
 ApartOn reference first second t φ h n = (j : Bool)
     → Chain 0 (edits cardRules j h (variantsFrom reference first second t 0 n) (choicesFrom φ 0 n))

@@ -1,4 +1,4 @@
--- Overlap. Document 01: two chosen entries of one list may not have overlapping REF spans.
+-- Overlap. Request c: two chosen entries of one list may not overlap on the same copy where both carry an allele other than REF.
 -- Assumes nothing: these are definitions.
 use mathlib.Core.Bool.{Bool, true, _&&_}
 use mathlib.Core.List.{List, [], _∷_}

@@ -1,5 +1,5 @@
 -- The card's own rules. Document 01: `+` puts an entry's alleles on copies 0 and 1 as written, `-` exchanges the two copies, `0` leaves it
--- out.
+-- out. Request c: "a copy that carries the reference allele is not touched."
 -- Assumes nothing: these are definitions.
 use mathlib.Core.Bool.{Bool, true, false, Bool·beq, _&&_}
 use mathlib.Core.List.{List, [], _∷_}
@@ -8,7 +8,7 @@ use mathlib.Core.Path.{_≡_}
 use Prim.Native.Nat.{ℕ, _+_, _-_, _≤_, max, min}
 use native.Mathlib.Omega.{arith}
 use lib.ListN.{length}
-use Rattle.donors.specs.Rules.{Rules, putIf}
+use Rattle.donors.specs.Rules.{Rules, putIf, takes?}
 
 -- `+`, `-` and `0`.
 pub data Choice : Type 0 where
@@ -19,7 +19,7 @@ pub data Copy : Type 0 where
   copy0 copy1 : Copy
 
 -- An entry as matching reads it, and all that matching reads of it: its list, where REF starts, how long REF is, its weight, and the
--- alleles for copies 0 and 1, each with whether it takes the entry's span.
+-- alleles for copies 0 and 1, each with whether it takes the entry's span. Request c: "A reference allele takes no room."
 pub record Variant : Type 0 where
   pub side : Bool
   pub start : ℕ
@@ -30,10 +30,8 @@ pub record Variant : Type 0 where
   pub room1 : Bool
   pub allele1 : List ℕ
 
--- An entry as document 01 has it: each of its alleles takes its span, and it counts 1.
+-- An entry as document 01 has it: it counts 1.
 pub record Plain (x : Variant) : Type 0 where
-  pub room0 : x .room0 ≡ true
-  pub room1 : x .room1 ≡ true
   pub weight : x .weight ≡ 1
 
 -- The allele for a copy, as written, and whether it takes the span.
@@ -102,11 +100,19 @@ cardRules = record {
   high = λ x c h t. written-high x (source c h);
 }
 
--- The chosen entries of list j.
-unfoldable pub chosenOf : Bool → List Variant → List Choice → List Variant
-chosenOf j [] φ = []
-chosenOf j (x ∷ xs) [] = []
-chosenOf j (x ∷ xs) (c ∷ φ) = putIf (Bool·beq j (x .side) && chosen? c) x (chosenOf j xs φ)
+-- The entries for which a test of entry and choice holds.
+unfoldable pub those : (Variant → Choice → Bool) → List Variant → List Choice → List Variant
+those f [] φ = []
+those f (x ∷ xs) [] = []
+those f (x ∷ xs) (c ∷ φ) = putIf (f x c) x (those f xs φ)
+
+-- The chosen entries of list j,
+abbrev pub chosenOf : Bool → List Variant → List Choice → List Variant
+chosenOf j xs φ = those (λ x c. Bool·beq j (x .side) && chosen? c) xs φ
+
+-- and those of them that carry an allele other than REF on copy h: one that takes the entry's span there.
+abbrev pub carriersOf : Bool → Copy → List Variant → List Choice → List Variant
+carriersOf j h xs φ = those (takes? cardRules j h) xs φ
 
 -- The REF spans of two entries do not overlap.
 abbrev pub SpansApart : Variant → Variant → Type 0

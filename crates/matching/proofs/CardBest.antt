@@ -3,8 +3,8 @@
 --     score-words       the score is the number of chosen entries in both lists
 --     all-allowed       every choice is allowed
 --     legal-words, best-words
---                       a legal pair and the best pair are what document 01 says, for document 01's entries in merged order
---     card-best         cardBest is document 01's best pair, and the only one
+--                       a legal pair and the best pair are what document 01 and request c say, for entries in merged order that count 1
+--     card-best         cardBest is that best pair, and the only one
 --     card-split        at a cut, choices are together legal, and together best, exactly if each side is
 --     card-clusters     over any clusters cut where they may be, the best pair is the clusters' best pairs, joined
 --     card-chop         and a string is best exactly if, chopped, it is best in each cluster
@@ -17,7 +17,7 @@ use Prim.Native.Nat.{ℕ, _+_, _<_}
 use native.Mathlib.Omega.{arith}
 use lib.ListN.{length}
 use Rattle.donors.specs.Apart.{All}
-use Rattle.donors.specs.Choice.{Choice, plus, minus, out, Copy, copy0, copy1, Variant, Plain, chosen?, cardRules, chosenOf}
+use Rattle.donors.specs.Choice.{Choice, plus, minus, out, Copy, copy0, copy1, Variant, Plain, chosen?, cardRules, those, chosenOf}
 use Rattle.donors.specs.Items.{Sorted, Solid}
 use Rattle.donors.specs.Rules.{list1, list2, putIf, donorOf, Allowed}
 use Rattle.donors.proofs.ChoiceLaws.{card-apart}
@@ -42,7 +42,7 @@ counts-put false minus x us vs e = omega arith
 counts-put false out x us vs e = omega arith
 
 pub score-words : (xs : List Variant) → All Plain xs → (φ : List Choice) → score cardScoring xs φ ≡ chosenCount xs φ
-unfolding score chosenOf
+unfolding score those
 score-words [] p φ = refl
 score-words (x ∷ xs) p [] = refl
 score-words (x ∷ xs) p (c ∷ φ) = omega (arith, counts-put (x .side) c x (chosenOf list1 xs φ) (chosenOf list2 xs φ) (p .0 .weight), score-words xs (p .1) φ)
@@ -55,8 +55,8 @@ all-allowed (x ∷ xs) (c ∷ φ) = (tt, all-allowed xs φ)
 module _ (R : List ℕ) (xs : List Variant) (plain : All Plain xs) (solid : Solid cardRules xs) (sorted : Sorted cardRules xs) where
   pub legal-words : (φ : List Choice) → Legal cardRules R xs φ ↔ LegalPair R xs φ
   legal-words φ = (
-    λ g. record { long = g .long; apart = λ j. card-apart j xs φ plain solid sorted .0 (g .apart j); same0 = g .same copy0; same1 = g .same copy1 },
-    λ g. record { long = g .long; allowed = all-allowed xs φ; apart = λ j. card-apart j xs φ plain solid sorted .1 (g .apart j); same = same g },
+    λ g. record { long = g .long; apart = λ j h. card-apart j h xs φ solid sorted .0 (g .apart j h); same0 = g .same copy0; same1 = g .same copy1 },
+    λ g. record { long = g .long; allowed = all-allowed xs φ; apart = λ j h. card-apart j h xs φ solid sorted .1 (g .apart j h); same = same g },
   )
     where
       same : LegalPair R xs φ → (h : Copy) → donorOf cardRules R list1 h xs φ ≡ donorOf cardRules R list2 h xs φ

@@ -1,11 +1,11 @@
--- Document 01's examples of marks, as cardBest computes them: 1, 6 to 12, in one table.
+-- The documents' examples of marks, as cardBest computes them: document 01's 1, 6 to 12, and request c's, in one table.
 -- Assumes nothing.
-use mathlib.Core.Bool.{Bool, true}
+use mathlib.Core.Bool.{Bool, not}
 use mathlib.Core.List.{List, [], _∷_, _++_}
 use mathlib.Core.Path.{_≡_, refl}
 use Prim.Native.Nat.{ℕ, _-_}
 use lib.ListN.{length, replicate}
-use Rattle.bases.specs.Same.{agree?}
+use Rattle.bases.specs.Same.{agree?, same?}
 use Rattle.donors.specs.Apart.{All, chain?}
 use Rattle.donors.specs.Choice.{Choice, plus, minus, out, Variant}
 use Rattle.donors.specs.Donor.{donorFrom}
@@ -28,9 +28,18 @@ G = 71
 abbrev T : ℕ
 T = 84
 
--- An entry by its list, POS, REF and the alleles for copies 0 and 1.
+-- An entry by its list, POS, REF and the alleles for copies 0 and 1, each of which takes the span where it is another than REF.
 abbrev entry : Bool → ℕ → List ℕ → List ℕ → List ℕ → Variant
-entry j pos ref a b = record { side = j; start = pos - 1; len = length ref; weight = 1; room0 = true; allele0 = a; room1 = true; allele1 = b }
+entry j pos ref a b = record {
+  side = j;
+  start = pos - 1;
+  len = length ref;
+  weight = 1;
+  room0 = not (same? a ref);
+  allele0 = a;
+  room1 = not (same? b ref);
+  allele1 = b;
+}
 
 -- An entry with one ALT, 1/1.
 abbrev hom : Bool → ℕ → List ℕ → List ℕ → Variant
@@ -101,8 +110,29 @@ table =
       entries = replicate 6 (hom list1 2 (A ∷ []) (C ∷ [])) ++ replicate 6 (hom list2 2 (A ∷ []) (C ∷ []));
       marks = (plus ∷ replicate 5 out) ++ (plus ∷ replicate 5 out);
     }
+    -- c: a deletion 0/1 and a SNV under it 1/0, against one entry 1/2 that spells both
+    ∷ record {
+      reference = G ∷ A ∷ C ∷ T ∷ C ∷ [];
+      entries =
+          entry list1 2 (A ∷ C ∷ T ∷ []) (A ∷ C ∷ T ∷ []) (A ∷ [])
+          ∷ entry list2 2 (A ∷ C ∷ T ∷ []) (A ∷ G ∷ T ∷ []) (A ∷ [])
+          ∷ entry list1 3 (C ∷ []) (G ∷ []) (C ∷ [])
+          ∷ [];
+      marks = plus ∷ plus ∷ plus ∷ [];
+    }
+    -- c: two het duplicates, against one homozygous entry and against one het entry
+    ∷ record {
+      reference = G ∷ A ∷ C ∷ [];
+      entries = replicate 2 (entry list1 2 (A ∷ []) (A ∷ []) (C ∷ [])) ++ (hom list2 2 (A ∷ []) (C ∷ []) ∷ []);
+      marks = plus ∷ minus ∷ plus ∷ [];
+    }
+    ∷ record {
+      reference = G ∷ A ∷ C ∷ [];
+      entries = replicate 2 (entry list1 2 (A ∷ []) (A ∷ []) (C ∷ [])) ++ (entry list2 2 (A ∷ []) (A ∷ []) (C ∷ []) ∷ []);
+      marks = plus ∷ out ∷ plus ∷ [];
+    }
     ∷ []
 
 pub examples : All (λ (r : Row). cardBest (r .reference) (r .entries) ≡ r .marks) table
 unfolding agree? chain? donorFrom edits score every? allowed? bestOf first? better bestOver search
-examples = (refl, (refl, (refl, (refl, (refl, (refl, (refl, (refl, (refl, tt)))))))))
+examples = (refl, (refl, (refl, (refl, (refl, (refl, (refl, (refl, (refl, (refl, (refl, (refl, tt))))))))))))

@@ -10,7 +10,7 @@ use native.Mathlib.Omega.{arith}
 use lib.ListN.{length}
 use Rattle.bases.specs.Pick.{pick}
 use Rattle.donors.specs.Apart.{Pairwise}
-use Rattle.donors.specs.Choice.{Choice, plus, minus, out, copy0, copy1, Variant, chosen?, cardRules, chosenOf, SpansApart}
+use Rattle.donors.specs.Choice.{Choice, plus, minus, out, Copy, copy0, copy1, Variant, chosen?, cardRules, chosenOf, carriersOf, SpansApart}
 use Rattle.donors.specs.Rules.{list1, list2, donorOf}
 use Rattle.matching.specs.Best.{Best, Scoring}
 use Rattle.matching.specs.BestOf.{Covers, Finite, bestOf}
@@ -67,11 +67,11 @@ cardFinite = record {
 abbrev pub cardBest : List ℕ → List Variant → List Choice
 cardBest R xs = bestOf cardRules cardFinite cardScoring R xs
 
--- A legal pair of choices in document 01's words: no two chosen entries of one list overlap, and the lists' donors are equal on copy 0 and
--- on copy 1.
+-- A legal pair of choices in request c's words: no two chosen entries of one list overlap on the same copy where both carry an allele other
+-- than REF; and in document 01's: the lists' donors are equal on copy 0 and on copy 1.
 pub record LegalPair (R : List ℕ) (xs : List Variant) (φ : List Choice) : Type 0 where
   pub long : length φ ≡ length xs
-  pub apart : (j : Bool) → Pairwise SpansApart (chosenOf j xs φ)
+  pub apart : (j : Bool) (h : Copy) → Pairwise SpansApart (carriersOf j h xs φ)
   pub same0 : donorOf cardRules R list1 copy0 xs φ ≡ donorOf cardRules R list2 copy0 xs φ
   pub same1 : donorOf cardRules R list1 copy1 xs φ ≡ donorOf cardRules R list2 copy1 xs φ
 

@@ -1,4 +1,5 @@
--- Legal choices. Document 01: a pair of choices is legal if no spans overlap so and the two lists' donors are equal on each copy.
+-- Legal choices. Document 01: a pair of choices is legal if no spans overlap so (as request c has it: on the same copy, where both carry an
+-- allele other than REF) and the two lists' donors are equal on each copy.
 -- The choices for both lists are one string, in the order of the items.
 -- Assumes nothing: these are definitions.
 use mathlib.Core.Bool.{Bool}

@@ -9,8 +9,9 @@ use donors::table::TABLE;
 use donors::table::WEIGHT;
 use donors::table::WIDTH;
 
-// The first number of an allele that takes its entry's span: its bytes stand in the reference, or in the list's text.
-const REFERENCE: u32 = 2;
+// The first number of an allele: REF takes no room, and its bytes stand in the reference; an ALT takes its entry's span, and its bytes
+// stand in the list's text.
+const REFERENCE: u32 = 0;
 
 const TEXT: u32 = 3;
 
