@@ -3,10 +3,11 @@
 --     agree-stop, agree-more, agree-past  two lists from i on: by what stands at i, and where one has ended
 --     agree-iff, same-iff                 what the tests say, place by place and whole
 --     same-bases-other, same-bases-long   bases of bytes, by their lengths
+--     bases-differ                        bytes that do not spell the same bases have other ones
 -- Assumes nothing.
 use mathlib.Core.Bool.{true, false, _&&_}
 use mathlib.Core.List.{List, [], _∷_}
-use mathlib.Core.Logic.{_↔_}
+use mathlib.Core.Logic.{_↔_, _≢_}
 use mathlib.Core.Path.{_≡_, refl, ap, _∙_}
 use Prim.Native.Nat.{ℕ, zero, suc, _+_, _≤_, _<_}
 use native.Mathlib.Nat.{not-suc-le-zero, le-of-suc-le-suc}
@@ -19,7 +20,7 @@ use borrow.Author.Tests.{eq-eqb, ne-eqb}
 use Rattle.bases.specs.Letter.{basesOf}
 use Rattle.bases.specs.Same.{agree?, same?, sameBases?}
 use Rattle.bases.proofs.LetterLaws.{bases-length}
-use Rattle.bases.proofs.TestLaws.{both, of-true}
+use Rattle.bases.proofs.TestLaws.{both, of-true, of-false}
 
 pub agree-nil : (x : List ℕ) → agree? x [] ≡ true
 unfolding agree?
@@ -80,3 +81,6 @@ same-bases-other a b n = rw (bases-length a, bases-length b, ne-eqb _ _ n)
 
 pub same-bases-long : (a b : List ℕ) → length a ≡ length b → sameBases? a b ≡ agree? (basesOf a) (basesOf b)
 same-bases-long a b e = rw (bases-length a, bases-length b, eq-eqb _ _ e)
+
+pub bases-differ : (a b : List ℕ) → sameBases? a b ≡ false → basesOf a ≢ basesOf b
+bases-differ a b s e = of-false s (same-iff (basesOf a) (basesOf b) .1 e)

@@ -1,4 +1,4 @@
--- Document 01's examples 1 to 12 hold: one statement over the definitions, computed.
+-- Document 01's examples 1 to 12 and those of request c hold: one statement over the definitions, computed.
 -- Assumes nothing.
 use mathlib.Core.Bool.{true}
 use mathlib.Core.Path.{_≡_, refl}
@@ -54,4 +54,4 @@ pub examples : All Holds table
 unfolding letterAmong letterOf allLetters? anyPeriod? agree? weave merged rest plan recordsFrom totalScore chain? donorFrom edits score every? allowed? bestOf join first? better bestOver search run all?
     shortest normalEntry digitsOf writtenLine putLine writtenLines textOf writtenText until headerBytes entriesFrom full? skip copiesWrong? headerWrong? linesOf judgeLines judgeText
     allDigits? isPos? valueFrom firstTold
-examples = (six, (three, (three, (three, (three, (six, (six, (six, (six, (six, (six, (six, (six, (six, tt))))))))))))))
+examples = (six, (three, (three, (three, (three, (six, (six, (six, (six, (six, (six, (six, (six, (six, (six, (six, (six, tt)))))))))))))))))

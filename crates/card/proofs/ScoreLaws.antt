@@ -1,5 +1,4 @@
 -- A score is a small number, where each entry counts 1.
---     score-least                a score is at most the number of entries
 --     cluster-score, asked-score     that of a decided cluster, and what is told of an asked one, is at most 12
 --     total-score                the sum over clusters is at most the number of their entries
 -- Assumes nothing.
@@ -13,33 +12,19 @@ use lib.ListN.{length, length-append}
 use Rattle.bases.specs.Pick.{pick}
 use Rattle.marks.specs.Marks.{decided?, scoreOf, markedOf, notFound, clusterAt, isCluster?, askedFor, totalScore}
 use Rattle.donors.specs.Apart.{All}
-use Rattle.donors.specs.Choice.{Choice, plus, minus, out, Variant, Plain}
+use Rattle.donors.specs.Choice.{Variant, Plain}
 use Rattle.donors.specs.Table.{most}
 use Rattle.matching.specs.Best.{score}
 use Rattle.matching.specs.Card.{cardScoring, cardBest}
 use Rattle.matching.specs.Cut.{join}
-
-pub score-least : (xs : List Variant) → All Plain xs → (φ : List Choice) → score cardScoring xs φ ≤ length xs
-unfolding score
-score-least [] p φ = omega arith
-score-least (x ∷ xs) p [] = omega arith
-score-least (x ∷ xs) p (plus ∷ φ) = omega (arith, p .0 .weight, score-least xs (p .1) φ)
-score-least (x ∷ xs) p (minus ∷ φ) = omega (arith, p .0 .weight, score-least xs (p .1) φ)
-score-least (x ∷ xs) p (out ∷ φ) = omega (arith, score-least xs (p .1) φ)
+use Rattle.marks.proofs.MarkLaws.{chosen-few, score-few}
 
 module _ (reference : List ℕ) where
-  score-few : (c : List Variant) → All Plain c → scoreOf reference c ≤ length c
-  score-few c p = go (decided? c)
-    where
-      go : (t : Bool) → pick t (score cardScoring c (cardBest reference c)) 0 ≤ length c
-      go true = score-least c p (cardBest reference c)
-      go false = omega arith
-
   pub cluster-score : (c : List Variant) → All Plain c → scoreOf reference c ≤ most
   cluster-score c p = go (decided? c) refl
     where
       go : (t : Bool) → decided? c ≡ t → pick t (score cardScoring c (cardBest reference c)) 0 ≤ most
-      go true e = omega (arith, score-least c p (cardBest reference c), leb-true (length c) most e)
+      go true e = omega (arith, chosen-few c (cardBest reference c) p, leb-true (length c) most e)
       go false e = omega arith
 
   pub asked-score : (cs : List (List Variant)) → All (All Plain) cs → (k : ℕ) → askedFor reference cs k .score ≤ most
@@ -57,4 +42,4 @@ module _ (reference : List ℕ) where
   pub total-score : (cs : List (List Variant)) → All (All Plain) cs → totalScore reference cs ≤ length (join cs)
   unfolding totalScore join
   total-score [] p = omega arith
-  total-score (c ∷ cs) p = omega (arith, score-few c (p .0), total-score cs (p .1), length-append c (join cs))
+  total-score (c ∷ cs) p = omega (arith, score-few reference c (p .0), total-score cs (p .1), length-append c (join cs))

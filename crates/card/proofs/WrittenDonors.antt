@@ -1,5 +1,6 @@
 -- Demand 2 on a written list, proved.
---     alone-plus, alone-minus, alone-out     the donor of one entry: the reference with its span replaced by the allele that the copy's number names
+--     alone-plus, alone-minus, alone-out     the donor of one entry: the reference with its span replaced by the allele that the copy's number names, and itself where
+--                                that is REF
 --     order-all                  what holds of each entry holds of each in the new order
 --     Fit, entries-fit           what is so of an accepted list's entries, as far as their donors go
 --     fit-donors                 an entry and its normal form: the same donor for each allele that they have
@@ -12,20 +13,21 @@ use Prim.Native.Nat.{ℕ, zero, suc, _+_, _-_, _≤_, _<_}
 use native.Mathlib.Omega.{arith}
 use borrow.Author.Tests.{eq-eqb, eqb-false}
 use lib.Dec.{T, eqb, ltb}
-use lib.ListN.{length, getD, take, drop}
+use lib.ListN.{length, getD, take, drop, take-append-drop}
+use lib.Seq.{drop-drop}
 use Rattle.bases.specs.Letter.{basesOf}
 use Rattle.bases.specs.Pick.{pick}
 use Rattle.bases.specs.Place.{placeOf}
 use Rattle.bases.specs.Reference.{isReference?, Bases}
+use Rattle.bases.specs.Stretch.{stretch}
 use Rattle.bases.proofs.ReferenceLaws.{reference-bases}
 use Rattle.bases.proofs.StretchLaws.{stretch-length}
-use Rattle.bases.proofs.TestLaws.{neither}
-use Rattle.clusters.specs.Item.{alleleOf}
+use Rattle.clusters.specs.Item.{alleleOf, takesRoom?}
 use Rattle.clusters.proofs.SoundLaws.{copies-named, entries-all}
 use Rattle.donors.specs.Apart.{All}
 use Rattle.donors.specs.Choice.{Copy, plus, minus, out, copy0, copy1, other}
 use Rattle.donors.specs.Donor.{Edit, donorFrom, donor}
-use Rattle.donors.specs.Rules.{edits}
+use Rattle.donors.specs.Rules.{putIf, edits}
 use Rattle.written.specs.Entries.{Beside, normalPos, putEntry, putEntries, newOrder, InNormalForm}
 use Rattle.normal.specs.Form.{alleles, OnReference, donor as donorOn}
 use Rattle.normal.specs.Spelled.{formOf}
@@ -35,12 +37,10 @@ use Rattle.normal.proofs.MemberLaws.{map-at}
 use Rattle.written.proofs.WrittenEntries.{written-entries}
 use Rattle.written.proofs.WrittenList.{written-accepted, written-twice}
 use Rattle.vcf.specs.declared.entry.Entry.{Entry}
-use Rattle.fields.specs.Allele.{altCount, twoAlts?}
+use Rattle.fields.specs.Allele.{twoAlts?}
 use Rattle.vcf.specs.Entry.{lineAt, bytesOf, entryOf, recordsAt, entriesOf}
 use Rattle.fields.specs.Field.{field}
-use Rattle.fields.specs.Genotype.{formatWrong?, copiesWrong?}
 use Rattle.vcf.specs.List.{judgeText}
-use Rattle.records.specs.Record.{genotypeOn}
 use Rattle.vcf.proofs.AcceptedLaws.{accepted-records}
 use Rattle.records.proofs.RecordLineLaws.{RecordLine}
 use Rattle.card.specs.WrittenDonors.{donorAlone, SameAlone, WrittenSame}
@@ -59,13 +59,19 @@ alone-is R e =
     let z : e .start - 0 ≡ e .start = omega arith in
     ap (λ (n : ℕ). take n R ++ (e .new ++ drop (e .start + e .len) R)) z ∙ sym (append-assoc (take (e .start) R) (e .new) (drop (e .start + e .len) R))
 
+-- REF put for itself
+stretch-whole : (R : List ℕ) (a n : ℕ) → take a R ++ stretch R a n ++ drop (a + n) R ≡ R
+stretch-whole R a n = rw (append-assoc (take a R) (take n (drop a R)) (drop (a + n) R), ← drop-drop n a R, take-append-drop n (drop a R)) (take-append-drop a R)
+
 module _ (reference text : List ℕ) (e : Entry) where
   -- The reference with the entry's span replaced by its allele k.
   abbrev replaced : ℕ → List ℕ
   replaced k = take (start e) reference ++ alleleOf reference text e k ++ drop (start e + e .reference .len) reference
 
-  one-edit : (k : ℕ) → donor reference (record { start = start e; len = e .reference .len; new = alleleOf reference text e k } ∷ []) ≡ replaced k
-  one-edit k = alone-is reference (record { start = start e; len = e .reference .len; new = alleleOf reference text e k })
+  one-edit : (k : ℕ) → donor reference (putIf (takesRoom? k) (record { start = start e; len = e .reference .len; new = alleleOf reference text e k }) []) ≡ replaced k
+  unfolding donorFrom
+  one-edit zero = sym (stretch-whole reference (start e) (e .reference .len))
+  one-edit (suc k) = alone-is reference (record { start = start e; len = e .reference .len; new = alleleOf reference text e (suc k) })
 
   alone-plus : (side : Bool) (h : Copy) → donorAlone reference text side e plus h ≡ replaced (numberOf e h)
   unfolding edits
@@ -127,7 +133,7 @@ entries-fit reference name t accepted = entries-all reference name t (Fit refere
     one : (a : ℕ) → a < length t → RecordLine reference (lineAt t a) → Fit reference (entryOf (lineAt t a) a)
     one a h line =
         let l = lineAt t a in
-        let c = copies-named (altCount (field 4 l)) (genotypeOn l) (neither (formatWrong? (field 8 l)) (copiesWrong? (altCount (field 4 l)) (genotypeOn l)) (line .genotype) .1) in
+        let c = copies-named reference l line in
         record { within = line .within; few = two-at-most (twoAlts? (field 4 l)); named = both-copies (entryOf l a) (c .0) (c .1) }
 
 module _ (reference text : List ℕ) (e : Entry) (fit : Fit reference e) where

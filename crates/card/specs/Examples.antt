@@ -1,4 +1,4 @@
--- Document 01's examples 1 to 12, as one table over texts.
+-- Document 01's examples 1 to 12 and those of request c, as one table over texts.
 -- Assumes nothing: these are definitions.
 use mathlib.Core.List.{List, [], _∷_, _++_}
 use Prim.Native.Char.{code}
@@ -41,9 +41,12 @@ pub data Example : Type 0 where
   normal : String → List ℕ → List ℕ → Example
   marks : String → List ℕ → List ℕ → List Cluster → String → ℕ → Example
 
--- The record of example 12.
+-- The record of examples 10 and 12; the same, heterozygous.
 abbrev pub snp : List ℕ
 snp = hom "2" "A" "C"
+
+abbrev pub het : List ℕ
+het = line "2" "A" "C" "0/1"
 
 abbrev pub table : List Example
 table =
@@ -66,11 +69,16 @@ table =
     -- 9
     ∷ marks "TGCCGT" (text (hom "2" "GCCG" "CCGA" ∷ [])) (text (hom "1" "TG" "T" ∷ hom "5" "G" "GA" ∷ [])) (cluster 0 3 ∷ []) "+++" 3
     -- 10
-    ∷ marks "GAC" (text (line "2" "A" "C" "0/1" ∷ [])) (text (line "2" "A" "C" "1/0" ∷ [])) (cluster 0 2 ∷ []) "+-" 2
-    ∷ marks "GAC" (text (line "2" "A" "C" "0/1" ∷ [])) (text (hom "2" "A" "C" ∷ [])) (cluster 0 2 ∷ []) "00" 0
+    ∷ marks "GAC" (text (het ∷ [])) (text (line "2" "A" "C" "1/0" ∷ [])) (cluster 0 2 ∷ []) "+-" 2
+    ∷ marks "GAC" (text (het ∷ [])) (text (snp ∷ [])) (cluster 0 2 ∷ []) "00" 0
     -- 11
     ∷ marks "GAAC" (text (hom "1" "G" "GA" ∷ hom "2" "AA" "A" ∷ [])) (text []) (cluster 0 2 ∷ []) "++" 2
     -- 12
     ∷ marks "GAC" (text (replicate 6 snp)) (text (replicate 6 snp)) (cluster 0 12 ∷ []) "+00000+00000" 2
     ∷ marks "GAC" (text (replicate 7 snp)) (text (replicate 6 snp)) (cluster 0 13 ∷ []) "?????????????" 0
+    -- c: a het deletion and a SNV under it on the other copy, against one entry of two ALTs that spells both
+    ∷ marks "GACTC" (text (line "2" "ACT" "A" "0/1" ∷ line "3" "C" "G" "1/0" ∷ [])) (text (line "2" "ACT" "AGT,A" "1/2" ∷ [])) (cluster 0 3 ∷ []) "+++" 3
+    -- c: two het duplicates, against one homozygous entry, and against one het entry: on one copy only one of them may be chosen
+    ∷ marks "GAC" (text (het ∷ het ∷ [])) (text (snp ∷ [])) (cluster 0 3 ∷ []) "+-+" 3
+    ∷ marks "GAC" (text (het ∷ het ∷ [])) (text (het ∷ [])) (cluster 0 3 ∷ []) "+0+" 2
     ∷ []

@@ -13,6 +13,7 @@ pub mod MergedLaws
 pub mod NextLaws
 pub mod PlanLaws
 pub mod PlanSteps
+pub mod RoomLaws
 pub mod SoundLaws
 pub mod StepLaws
 pub mod Steps

@@ -1,5 +1,6 @@
 -- The entries of accepted texts.
 --     copies-named                     the copies' numbers name alleles that the entry has
+--     two-alts                         an entry that has an allele 2 or above has two ALTs
 --     ref-allele, first-alt-allele, second-alt-allele
 --                                      alleles 0, 1 and 2 are the bases of REF and of the ALTs of the entry's line
 --     entry-sound                      what is so of a record's entry, from the rows that do not hold on its line
@@ -45,15 +46,20 @@ use Rattle.clusters.proofs.MergedLaws.{SortedBy}
 digit-to : (n b : ℕ) → T (digitTo? n b) → b - 48 ≤ n
 digit-to n b t = leb→le (b - 48) n (both (digit? b) (leb (b - 48) n) .0 t .1)
 
-pub copies-named : (n : ℕ) (g : List ℕ) → copiesWrong? n g ≡ false → (copy0 g ≤ n) × (copy1 g ≤ n)
+copies-to : (n : ℕ) (g : List ℕ) → copiesWrong? n g ≡ false → (copy0 g ≤ n) × (copy1 g ≤ n)
 unfolding copiesWrong?
-copies-named n g e =
+copies-to n g e =
     let d0 = digitTo? n (getD g 0 0) in
     let s = separator? (getD g 1 0) in
     let d1 = digitTo? n (getD g 2 0) in
     let k = both (eqb (length g) 3) (d0 && (s && d1)) .0 (of-true (not-false (eqb (length g) 3 && (d0 && (s && d1))) e)) .1 in
     let m = both d0 (s && d1) .0 k in
     (digit-to n (getD g 0 0) (m .0), digit-to n (getD g 2 0) (both s d1 .0 (m .1) .1))
+
+pub copies-named : (reference l : List ℕ) → RecordLine reference l → (copy0 (genotypeOn l) ≤ altCount (field 4 l)) × (copy1 (genotypeOn l) ≤ altCount (field 4 l))
+copies-named reference l line =
+    let n = altCount (field 4 l) in
+    copies-to n (genotypeOn l) (neither (formatWrong? (field 8 l)) (copiesWrong? n (genotypeOn l)) (line .genotype) .1)
 
 allele-size : (x : List ℕ) → T (isAllele? x) → (1 ≤ length x) × (length x ≤ longestAllele)
 allele-size x t = let s = allele-iff x .0 t in (s .0, s .1)
@@ -64,8 +70,8 @@ part-size t at len h = bases-length (take len (drop at t)) ∙ length-take-le le
 
 -- The line at a is a record's.
 module _ (reference t : List ℕ) (a : ℕ) (inside : a < length t) (line : RecordLine reference (lineAt t a)) where
-  two : (k : ℕ) → suc (suc k) ≤ altCount (field 4 (lineAt t a)) → T (twoAlts? (field 4 (lineAt t a)))
-  two k h = go (twoAlts? (field 4 (lineAt t a))) h
+  pub two-alts : (k : ℕ) → suc (suc k) ≤ altCount (field 4 (lineAt t a)) → T (twoAlts? (field 4 (lineAt t a)))
+  two-alts k h = go (twoAlts? (field 4 (lineAt t a))) h
     where
       go : (b : Bool) → suc (suc k) ≤ pick b 2 1 → T b
       go true h = tt
@@ -76,7 +82,7 @@ module _ (reference t : List ℕ) (a : ℕ) (inside : a < length t) (line : Reco
   allele-long (suc zero) h =
       part-size t (entryOf (lineAt t a) a .first .at) (entryOf (lineAt t a) a .first .len) (first-within t a (omega arith) (line .ten))
   allele-long (suc (suc k)) h =
-      part-size t (entryOf (lineAt t a) a .second .at) (entryOf (lineAt t a) a .second .len) (second-within t a (omega arith) (line .ten) (two k h))
+      part-size t (entryOf (lineAt t a) a .second .at) (entryOf (lineAt t a) a .second .len) (second-within t a (omega arith) (line .ten) (two-alts k h))
 
   allele-sized : (k : ℕ) → k ≤ altCount (field 4 (lineAt t a)) → (1 ≤ lenOf (entryOf (lineAt t a) a) k) × (lenOf (entryOf (lineAt t a) a) k ≤ longestAllele)
   allele-sized zero h = allele-size (field 3 (lineAt t a)) (line .ref)
@@ -86,7 +92,7 @@ module _ (reference t : List ℕ) (a : ℕ) (inside : a < length t) (line : Reco
       omega (arith, length-take-le (until COMMA f) f (until-le COMMA f))
   allele-sized (suc (suc k)) h =
       let f = field 4 (lineAt t a) in
-      let z = allele-size (secondAlt f) (line .alts .second (two k h)) in
+      let z = allele-size (secondAlt f) (line .alts .second (two-alts k h)) in
       omega (arith, length-drop (until COMMA f + 1) f)
 
   pub ref-allele : alleleOf reference t (entryOf (lineAt t a) a) 0 ≡ basesOf (field 3 (lineAt t a))
@@ -101,7 +107,7 @@ module _ (reference t : List ℕ) (a : ℕ) (inside : a < length t) (line : Reco
   pub entry-sound : Sound reference t (entryOf (lineAt t a) a)
   entry-sound =
       let r = lineAt t a in
-      let c = copies-named (altCount (field 4 r)) (genotypeOn r) (neither (formatWrong? (field 8 r)) (copiesWrong? (altCount (field 4 r)) (genotypeOn r)) (line .genotype) .1) in
+      let c = copies-named reference r line in
       record {
         pos = line .pos;
         some = allele-size (field 3 r) (line .ref) .0;

@@ -2,8 +2,10 @@
 -- Assumes nothing: these are definitions.
 use mathlib.Core.Bool.{Bool, true, false}
 use mathlib.Core.List.{List}
+use mathlib.Core.Logic.{_↔_, _≢_}
 use mathlib.Core.Path.{_≡_}
 use Prim.Native.Nat.{ℕ, zero, suc, _+_, _-_, _≤_, max, min}
+use lib.Dec.{T}
 use lib.ListN.{length}
 use Rattle.bases.specs.Letter.{basesOf}
 use Rattle.bases.specs.declared.place.Place.{Place}
@@ -31,19 +33,28 @@ abbrev pub alleleOf : List ℕ → List ℕ → Entry → ℕ → List ℕ
 alleleOf reference text e k =
     named k (stretch reference (startOf e .0) (e .reference .len)) (basesOf (bytesOf text (e .first))) (basesOf (bytesOf text (e .second)))
 
--- The entry as matching reads it: its list, where REF starts, how long REF is, its weight, and the alleles that its copies' numbers name,
--- each of which takes its span.
+-- Allele k takes its entry's span: it is another than REF. Request c: "A reference allele takes no room."
+abbrev pub takesRoom? : ℕ → Bool
+takesRoom? zero = false
+takesRoom? (suc k) = true
+
+-- The entry as matching reads it: its list, where REF starts, how long REF is, its weight, and the alleles that its copies' numbers name.
 abbrev pub variantOf : List ℕ → List ℕ → Bool → Entry → Variant
 variantOf reference text side e = record {
   side = side;
   start = startOf e .0;
   len = e .reference .len;
   weight = 1;
-  room0 = true;
+  room0 = takesRoom? (e .copy0);
   allele0 = alleleOf reference text e (e .copy0);
-  room1 = true;
+  room1 = takesRoom? (e .copy1);
   allele1 = alleleOf reference text e (e .copy1);
 }
+
+-- An entry whose alleles take its span exactly where they spell other bases than REF.
+pub record ByBases (reference : List ℕ) (x : Variant) : Type 0 where
+  pub zero : T (x .room0) ↔ (x .allele0 ≢ stretch reference (x .start) (x .len))
+  pub one : T (x .room1) ↔ (x .allele1 ≢ stretch reference (x .start) (x .len))
 
 -- The text of the list.
 abbrev pub textOf : Bool → List ℕ → List ℕ → List ℕ

@@ -1,6 +1,7 @@
 -- Laws of a cluster's marks.
 --     best-long                   the best pair has one choice an entry
---     marks-length, score-few     one mark an entry; no more entries are chosen than there are, where each counts 1
+--     marks-length, chosen-few, score-few
+--                                 one mark an entry; no more entries are chosen than there are, where each counts 1
 --     marks-many, marks-few       the marks and what is told of a cluster that is undecided, and of one that is decided
 --     next-long, next-plain       the next n entries: there are n, each of which counts 1
 --     next-small, next-ready      their numbers fit into a table, and the search may read that
@@ -50,7 +51,7 @@ counts-few x plus e = omega arith
 counts-few x minus e = omega arith
 counts-few x out e = omega arith
 
-chosen-few : (xs : List Variant) (φ : List Choice) → All Plain xs → score cardScoring xs φ ≤ length xs
+pub chosen-few : (xs : List Variant) (φ : List Choice) → All Plain xs → score cardScoring xs φ ≤ length xs
 unfolding score
 chosen-few [] φ a = omega arith
 chosen-few (x ∷ xs) [] a = omega arith

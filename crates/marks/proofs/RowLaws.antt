@@ -27,12 +27,12 @@ use Rattle.vcf.specs.declared.entry.Part.{Part}
 use Rattle.vcf.specs.Entry.{bytesOf}
 use Rattle.vcf.specs.List.{longestText}
 use Rattle.clusters.specs.declared.item.Item.{Item}
-use Rattle.clusters.specs.Item.{startOf, alleleOf, textOf, variant, lenOf}
+use Rattle.clusters.specs.Item.{startOf, alleleOf, takesRoom?, textOf, variant, lenOf}
 use Rattle.marks.specs.Row.{inText, standOf, rowOf, SmallEntry, kindOf, numbersOf}
 use Rattle.clusters.proofs.CardClusters.{SoundItem}
 
 pub stand-ref : (e : Entry) {s : Place} {k : ℕ} → s ≡ startOf e → k ≡ 0
-    → _≡_ {A = Allele} record { room = true; text = false; at = s .0; len = e .reference .len } (standOf e k)
+    → _≡_ {A = Allele} record { room = false; text = false; at = s .0; len = e .reference .len } (standOf e k)
 stand-ref e es ek = cc
 
 pub stand-first : (e : Entry) {k : ℕ} → k ≡ 1 → inText (e .first) ≡ standOf e k
@@ -62,7 +62,7 @@ stand-bases reference text e zero = refl
 stand-bases reference text e (suc zero) = sym (bases-part text (e .first .at) (e .first .len))
 stand-bases reference text e (suc (suc k)) = sym (bases-part text (e .second .at) (e .second .len))
 
-stand-room : (e : Entry) (k : ℕ) → standOf e k .room ≡ true
+stand-room : (e : Entry) (k : ℕ) → standOf e k .room ≡ takesRoom? k
 stand-room e zero = refl
 stand-room e (suc zero) = refl
 stand-room e (suc (suc k)) = refl

@@ -11,14 +11,14 @@ use Rattle.vcf.specs.declared.entry.Part.{Part}
 use Rattle.clusters.specs.declared.item.Item.{Item}
 use Rattle.clusters.specs.Item.{named, startOf}
 
--- Bytes in the list's text, of an allele that takes its entry's span.
+-- Bytes in the list's text, of an allele that takes its entry's span: an ALT.
 abbrev pub inText : Part → Allele
 inText p = record { room = true; text = true; at = p .at; len = p .len }
 
--- Where the bytes of allele k stand: those of REF in the reference, those of an ALT in the list's text.
+-- Where the bytes of allele k stand: those of REF, which takes no room, in the reference, those of an ALT in the list's text.
 abbrev pub standOf : Entry → ℕ → Allele
 standOf e k =
-    named k (record { room = true; text = false; at = startOf e .0; len = e .reference .len }) (inText (e .first)) (inText (e .second))
+    named k (record { room = false; text = false; at = startOf e .0; len = e .reference .len }) (inText (e .first)) (inText (e .second))
 
 -- The row of an entry: it counts 1.
 abbrev pub rowOf : Item → Row

@@ -20,7 +20,7 @@ use donors::table::TABLE;
 use donors::table::WIDTH;
 use vcf::entry::Entry;
 
-// Where the bytes of allele k stand, of an entry that starts at `start`. Each allele takes its entry's span.
+// Where the bytes of allele k stand, of an entry that starts at `start`. An ALT takes its entry's span, REF takes no room.
 fn stand_of(entry: Entry, start: Place, k: usize) -> Allele
     requires { ⌜ start ≡ startOf entry ⌝ }
     ensures { λ r. ⌜ r ≡ standOf entry k ⌝ }
@@ -28,7 +28,7 @@ fn stand_of(entry: Entry, start: Place, k: usize) -> Allele
     if k == 0 {
         let bases = entry.reference;
         return Allele {
-            room: true,
+            room: false,
             text: false,
             at: start.0,
             len: bases.len,

@@ -16,9 +16,9 @@ use Rattle.bases.specs.Letter.{allLetters?, basesOf}
 use Rattle.bases.specs.Pick.{pick}
 use Rattle.bases.specs.Same.{sameBases?}
 use Rattle.bases.proofs.LetterLaws.{bases-length}
-use Rattle.bases.proofs.SameLaws.{same-iff}
+use Rattle.bases.proofs.SameLaws.{same-iff, bases-differ}
 use Rattle.bases.proofs.StretchLaws.{stretch-length}
-use Rattle.bases.proofs.TestLaws.{of-false, is-false}
+use Rattle.bases.proofs.TestLaws.{is-false}
 use Rattle.vcf.specs.declared.entry.Entry.{Entry}
 use Rattle.fields.specs.Allele.{isAllele?, longestAllele, altCount, firstAlt, twoAlts?, secondAlt}
 use Rattle.fields.specs.Bytes.{LF}
@@ -45,9 +45,6 @@ two-count f = go (twoAlts? f)
 
 is-allele : (a : List ℕ) → 1 ≤ length a → length a ≤ longestAllele → T (allLetters? a) → T (isAllele? a)
 is-allele a h k t = allele-iff a .1 (h, k, t)
-
-differ : (a b : List ℕ) → sameBases? a b ≡ false → basesOf a ≡ basesOf b → ⊥
-differ a b s e = of-false s (same-iff (basesOf a) (basesOf b) .1 e)
 
 -- of bases that are in upper case
 not-same : (a b : List ℕ) → basesOf a ≡ a → basesOf b ≡ b → (a ≡ b → ⊥) → sameBases? a b ≡ false
@@ -113,13 +110,13 @@ module _ (reference l : List ℕ) (good : Bases reference) (one : Without LF l) 
 
   -- The old alleles differ.
   first-ref : basesOf (bytesOf l (e .first)) ≡ refOf reference e → ⊥
-  first-ref h = differ (firstAlt (field 4 l)) (field 3 l) (line .alts .first-new) (ap basesOf (sym (first-is reference l good one line)) ∙ h ∙ sym (line .same))
+  first-ref h = bases-differ (firstAlt (field 4 l)) (field 3 l) (line .alts .first-new) (ap basesOf (sym (first-is reference l good one line)) ∙ h ∙ sym (line .same))
 
   second-ref : T (twoAlts? (field 4 l)) → basesOf (bytesOf l (e .second)) ≡ refOf reference e → ⊥
-  second-ref t h = differ (secondAlt (field 4 l)) (field 3 l) (line .alts .second-new t) (ap basesOf (sym (second-is reference l good one line t)) ∙ h ∙ sym (line .same))
+  second-ref t h = bases-differ (secondAlt (field 4 l)) (field 3 l) (line .alts .second-new t) (ap basesOf (sym (second-is reference l good one line t)) ∙ h ∙ sym (line .same))
 
   second-first : T (twoAlts? (field 4 l)) → basesOf (bytesOf l (e .second)) ≡ basesOf (bytesOf l (e .first)) → ⊥
-  second-first t h = differ (secondAlt (field 4 l)) (firstAlt (field 4 l)) (line .alts .two-new t)
+  second-first t h = bases-differ (secondAlt (field 4 l)) (firstAlt (field 4 l)) (line .alts .two-new t)
       (ap basesOf (sym (second-is reference l good one line t)) ∙ h ∙ ap basesOf (first-is reference l good one line))
 
   pub new-alleles : NewAlleles reference l
