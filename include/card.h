@@ -37,8 +37,8 @@ extern "C" {
  *
  *     if (!CARD_FITS(card_version())) fail("card.h and libcard_abi.a are of different versions");
  */
-#define CARD_VERSION_MAJOR 2u
-#define CARD_VERSION_MINOR 1u
+#define CARD_VERSION_MAJOR 3u
+#define CARD_VERSION_MINOR 0u
 #define CARD_VERSION (CARD_VERSION_MAJOR << 16 | CARD_VERSION_MINOR)
 #define CARD_FITS(version) ((version) >> 16 == CARD_VERSION_MAJOR && ((version)&0xffffu) + 1 > CARD_VERSION_MINOR)
 
@@ -286,9 +286,10 @@ card_answer card_entries(const uint8_t *reference, size_t reference_count, const
  *            in the list (card_entries writes that order out)
  *
  * Answered: the marks of the cluster's entries are written, and no other byte of marks changes. An entry that matches is '+'
- * where it is taken as written, and '-' where its two copies are exchanged. One that is left out is '0'. value is the cluster's
- * score, the number of its entries that match. A cluster of 13 entries or more is undecided: each of its marks is '?', and value
- * is CARD_UNDECIDED.
+ * where it is taken as written, and '-' where its two copies are exchanged. One that is left out is '0'. Of one list no two entries
+ * match that overlap on a copy where both carry an allele other than REF; on a copy that carries REF an entry takes no room. value
+ * is the cluster's score, the number of its entries that match. A cluster of 13 entries or more is undecided: each of its marks is
+ * '?', and value is CARD_UNDECIDED.
  * Once each cluster has been answered, in whatever order, every entry of a decided cluster has the mark that the best pair over
  * the two whole lists gives it.
  * Refused: 1, 2, 3 to 9, 11 to 15, 20 to 23, 17, 16. No byte of marks changes.

@@ -4,11 +4,11 @@ use Prim.Native.Nat.{ℕ, _+_, _*_}
 
 -- The major part is raised whenever a call or a struct changes for its callers,
 abbrev pub major : ℕ
-major = 2
+major = 3
 
 -- the minor part whenever something is added.
 abbrev pub minor : ℕ
-minor = 1
+minor = 0
 
 -- The version: 65,536 times the major part, plus the minor part.
 abbrev pub cardVersion : ℕ
