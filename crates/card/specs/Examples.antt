@@ -77,7 +77,8 @@ table =
     ∷ marks "GAC" (text (replicate 6 snp)) (text (replicate 6 snp)) (cluster 0 12 ∷ []) "+00000+00000" 2
     ∷ marks "GAC" (text (replicate 7 snp)) (text (replicate 6 snp)) (cluster 0 13 ∷ []) "?????????????" 0
     -- c: a het deletion and a SNV under it on the other copy, against one entry of two ALTs that spells both
-    ∷ marks "GACTC" (text (line "2" "ACT" "A" "0/1" ∷ line "3" "C" "G" "1/0" ∷ [])) (text (line "2" "ACT" "AGT,A" "1/2" ∷ [])) (cluster 0 3 ∷ []) "+++" 3
+    ∷ marks "GACTC" (text (line "2" "ACT" "A" "0/1" ∷ line "3" "C" "G" "1/0" ∷ []))
+    (text (line "2" "ACT" "AGT,A" "1/2" ∷ [])) (cluster 0 3 ∷ []) "+++" 3
     -- c: two het duplicates, against one homozygous entry, and against one het entry: on one copy only one of them may be chosen
     ∷ marks "GAC" (text (het ∷ het ∷ [])) (text (snp ∷ [])) (cluster 0 3 ∷ []) "+-+" 3
     ∷ marks "GAC" (text (het ∷ het ∷ [])) (text (het ∷ [])) (cluster 0 3 ∷ []) "+0+" 2

@@ -27,16 +27,20 @@ use Rattle.vcf.specs.declared.entry.Part.{Part}
 use Rattle.vcf.specs.Entry.{bytesOf}
 use Rattle.vcf.specs.List.{longestText}
 use Rattle.clusters.specs.declared.item.Item.{Item}
-use Rattle.clusters.specs.Item.{startOf, alleleOf, takesRoom?, textOf, variant, lenOf}
-use Rattle.marks.specs.Row.{inText, standOf, rowOf, SmallEntry, kindOf, numbersOf}
+use Rattle.clusters.specs.Item.{startOf, alleleOf, textOf, variant, lenOf}
+use Rattle.marks.specs.Row.{standOf, rowOf, SmallEntry, kindOf, numbersOf}
 use Rattle.clusters.proofs.CardClusters.{SoundItem}
+
+-- Bytes in the list's text, of an allele that takes its entry's span: an ALT.
+abbrev inText : Part → Allele
+inText p = record { room = true; text = true; at = p .at; len = p .len }
 
 pub stand-ref : (e : Entry) {s : Place} {k : ℕ} → s ≡ startOf e → k ≡ 0
     → _≡_ {A = Allele} record { room = false; text = false; at = s .0; len = e .reference .len } (standOf e k)
-stand-ref e es ek = cc
+stand-ref e es ek = rw (es, ek)
 
 pub stand-first : (e : Entry) {k : ℕ} → k ≡ 1 → inText (e .first) ≡ standOf e k
-stand-first e ek = cc
+stand-first e ek = rw ek
 
 pub stand-second : (e : Entry) (k : ℕ) → 2 ≤ k → inText (e .second) ≡ standOf e k
 stand-second e k h = let n : k ≡ suc (suc (k - 2)) = omega arith in rw n
@@ -62,11 +66,6 @@ stand-bases reference text e zero = refl
 stand-bases reference text e (suc zero) = sym (bases-part text (e .first .at) (e .first .len))
 stand-bases reference text e (suc (suc k)) = sym (bases-part text (e .second .at) (e .second .len))
 
-stand-room : (e : Entry) (k : ℕ) → standOf e k .room ≡ takesRoom? k
-stand-room e zero = refl
-stand-room e (suc zero) = refl
-stand-room e (suc (suc k)) = refl
-
 text-is : (b : Bool) (first second : List ℕ) → pick b first second ≡ textOf b first second
 text-is true first second = refl
 text-is false first second = refl
@@ -82,11 +81,6 @@ stand-within reference text e zero w l s = w
 stand-within reference text e (suc zero) w l s = part-within text (e .first) l s
 stand-within reference text e (suc (suc k)) w l s = part-within text (e .second) l s
 
-stand-len : (e : Entry) (k : ℕ) → standOf e k .len ≡ lenOf e k
-stand-len e zero = refl
-stand-len e (suc zero) = refl
-stand-len e (suc (suc k)) = refl
-
 from-short : (b : Bool) (text reference : List ℕ) → length text ≤ longestText → length reference ≤ longestReference → length (basesFrom reference text b) ≤ longestText
 from-short true text reference h l = omega (arith, bases-length text)
 from-short false text reference h l = omega arith
@@ -100,7 +94,7 @@ module _ (reference first second : List ℕ) (i : Item) where
   row-variant =
       let t = textOf (i .side) first second in
       let e = i .entry in
-      rw (text-is (i .side) first second, stand-room e (e .copy0), stand-bases reference t e (e .copy0), stand-room e (e .copy1), stand-bases reference t e (e .copy1))
+      rw (text-is (i .side) first second, stand-bases reference t e (e .copy0), stand-bases reference t e (e .copy1))
 
   module _ (s : SoundItem reference first second i) where
     -- each allele ends within what it stands in
@@ -115,13 +109,12 @@ module _ (reference first second : List ℕ) (i : Item) where
 
     pub row-sound : Sound reference (pick (rowOf i .first) first second) (rowOf i)
     row-sound =
-        let e = i .entry in
         rw (text-is (i .side) first second) (record {
           span = s .within;
           zero = zero-ends;
           one = one-ends;
-          some0 = omega (arith, s .some0, stand-len e (e .copy0));
-          some1 = omega (arith, s .some1, stand-len e (e .copy1));
+          some0 = s .some0;
+          some1 = s .some1;
         })
 
     pub row-small : length reference ≤ longestReference → length first ≤ longestText → length second ≤ longestText → SmallEntry i

@@ -7,18 +7,17 @@ use Rattle.bases.specs.Pick.{pick}
 use Rattle.donors.specs.declared.table.Allele.{Allele}
 use Rattle.donors.specs.declared.table.Row.{Row}
 use Rattle.vcf.specs.declared.entry.Entry.{Entry}
-use Rattle.vcf.specs.declared.entry.Part.{Part}
 use Rattle.clusters.specs.declared.item.Item.{Item}
-use Rattle.clusters.specs.Item.{named, startOf}
+use Rattle.clusters.specs.Item.{named, startOf, takesRoom?, lenOf}
 
--- Bytes in the list's text, of an allele that takes its entry's span: an ALT.
-abbrev pub inText : Part → Allele
-inText p = record { room = true; text = true; at = p .at; len = p .len }
-
--- Where the bytes of allele k stand: those of REF, which takes no room, in the reference, those of an ALT in the list's text.
+-- Allele k: whether it takes its entry's span, and where its bytes stand: those of REF in the reference, those of an ALT in the list's text.
 abbrev pub standOf : Entry → ℕ → Allele
-standOf e k =
-    named k (record { room = false; text = false; at = startOf e .0; len = e .reference .len }) (inText (e .first)) (inText (e .second))
+standOf e k = record {
+  room = takesRoom? k;
+  text = named k false true true;
+  at = named k (startOf e .0) (e .first .at) (e .second .at);
+  len = lenOf e k;
+}
 
 -- The row of an entry: it counts 1.
 abbrev pub rowOf : Item → Row

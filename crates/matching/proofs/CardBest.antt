@@ -2,8 +2,8 @@
 --     rank-words        `+` ranks before `-`, and `-` before `0`
 --     score-words       the score is the number of chosen entries in both lists
 --     all-allowed       every choice is allowed
---     legal-words, best-words
---                       a legal pair and the best pair are what document 01 and request c say, for entries in merged order that count 1
+--     legal-words       a legal pair is what document 01 and request c say, for entries in merged order
+--     best-words        and so is the best pair, where each of them counts 1
 --     card-best         cardBest is that best pair, and the only one
 --     card-split        at a cut, choices are together legal, and together best, exactly if each side is
 --     card-clusters     over any clusters cut where they may be, the best pair is the clusters' best pairs, joined
@@ -52,7 +52,7 @@ all-allowed [] φ = tt
 all-allowed (x ∷ xs) [] = tt
 all-allowed (x ∷ xs) (c ∷ φ) = (tt, all-allowed xs φ)
 
-module _ (R : List ℕ) (xs : List Variant) (plain : All Plain xs) (solid : Solid cardRules xs) (sorted : Sorted cardRules xs) where
+module _ (R : List ℕ) (xs : List Variant) (solid : Solid cardRules xs) (sorted : Sorted cardRules xs) where
   pub legal-words : (φ : List Choice) → Legal cardRules R xs φ ↔ LegalPair R xs φ
   legal-words φ = (
     λ g. record { long = g .long; apart = λ j h. card-apart j h xs φ solid sorted .0 (g .apart j h); same0 = g .same copy0; same1 = g .same copy1 },
@@ -63,12 +63,16 @@ module _ (R : List ℕ) (xs : List Variant) (plain : All Plain xs) (solid : Soli
       same g copy0 = g .same0
       same g copy1 = g .same1
 
+module _ (R : List ℕ) (xs : List Variant) (plain : All Plain xs) (solid : Solid cardRules xs) (sorted : Sorted cardRules xs) where
+  words : (φ : List Choice) → Legal cardRules R xs φ ↔ LegalPair R xs φ
+  words = legal-words R xs solid sorted
+
   pub best-words : (φ : List Choice) → IsBest cardRules cardScoring R xs φ ↔ BestPair R xs φ
   best-words φ =
       let e : score cardScoring xs ≡ chosenCount xs = fun-ext (score-words xs plain) in
       subst (λ (s : List Choice → ℕ). IsBest cardRules cardScoring R xs φ ↔ Best rankOf (LegalPair R xs) s φ) e (
-        λ b. record { legal = legal-words φ .0 (b .legal); top = λ ψ g. b .top ψ (legal-words ψ .1 g) },
-        λ b. record { legal = legal-words φ .1 (b .legal); top = λ ψ g. b .top ψ (legal-words ψ .0 g) },
+        λ b. record { legal = words φ .0 (b .legal); top = λ ψ g. b .top ψ (words ψ .1 g) },
+        λ b. record { legal = words φ .1 (b .legal); top = λ ψ g. b .top ψ (words ψ .0 g) },
       )
 
   pub card-best : BestPair R xs (cardBest R xs) × ((φ : List Choice) → BestPair R xs φ → φ ≡ cardBest R xs)
