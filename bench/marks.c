@@ -34,7 +34,7 @@ static card_cluster plan[CARD_LEAST];
 static uint8_t marks[CARD_LEAST];
 static card_entry entries[CARD_LEAST];
 
-/* What every call takes before what it is lent to write in; card_mark and card_mark_all take the scheme before it. */
+/* What every call takes before what it is lent to write in. */
 #define PAIR reference.bytes, reference.count, name, sizeof name, first.bytes, first.count, second.bytes, second.count
 
 static void read_file(const char *path, struct file *file)
@@ -61,7 +61,7 @@ struct marked {
 
 static struct marked mark_all(void)
 {
-    card_all_marked all = card_mark_all(CARD_BOTH_LISTS, PAIR, plan, CARD_LEAST, marks, CARD_LEAST);
+    card_all_marked all = card_mark_all(PAIR, plan, CARD_LEAST, marks, CARD_LEAST);
     need(all.number);
     return (struct marked){all.clusters, all.score};
 }
@@ -72,7 +72,7 @@ static struct marked mark_each(void)
     need(planned.number);
     struct marked marked = {planned.value, 0};
     for (uint32_t i = 0; i < marked.clusters; i++) {
-        card_answer answer = card_mark(CARD_BOTH_LISTS, PAIR, plan, CARD_LEAST, i, marks, CARD_LEAST);
+        card_answer answer = card_mark(PAIR, plan, CARD_LEAST, i, marks, CARD_LEAST);
         need(answer.number);
         marked.score += answer.value == CARD_UNDECIDED ? 0 : answer.value;
     }

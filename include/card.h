@@ -37,7 +37,7 @@ extern "C" {
  *
  *     if (!CARD_FITS(card_version())) fail("card.h and libcard_abi.a are of different versions");
  */
-#define CARD_VERSION_MAJOR 4u
+#define CARD_VERSION_MAJOR 3u
 #define CARD_VERSION_MINOR 0u
 #define CARD_VERSION (CARD_VERSION_MAJOR << 16 | CARD_VERSION_MINOR)
 #define CARD_FITS(version) ((version) >> 16 == CARD_VERSION_MAJOR && ((version)&0xffffu) + 1 > CARD_VERSION_MINOR)
@@ -45,11 +45,10 @@ extern "C" {
 uint32_t card_version(void);
 
 /*
- * Why a call is refused. The first that holds is told, in this order: 32; 1; 2; list 1; list 2; 17; 16; 18, each where the call
+ * Why a call is refused. The first that holds is told, in this order: 1; 2; list 1; list 2; 17; 16; 18, each where the call
  * has that input. Within a list: 3, then the lines from the top. On a line: 4, 5, 15, 6 to 9, then for each allele of ALT in turn
- * 20, 21, 22 (and 23 of the second), then 11, 12, 24, 13, 14. A number is told only where what it says is so. 10 is given no more: 20
- * to 23 stand in its place, and tell the allele. 30 and 31 are those of a lot's report, which has no call here. Numbers from 33 on
- * are kept for calls to come.
+ * 20, 21, 22 (and 23 of the second), then 11 to 14. A number is told only where what it says is so. 10 is given no more: 20 to 23
+ * stand in its place, and tell the allele. Numbers from 30 on are kept for calls to come.
  *
  * The first allele of ALT is what stands before the first comma, or all of ALT where there is none. The second is all that stands
  * behind that comma: a further comma is a wrong byte of it. An empty allele begins at the comma or TAB that ends it.
@@ -86,9 +85,7 @@ enum card_refusal {
     CARD_WRONG_SIZE = 20,         /* an allele of ALT is empty or over 64 bytes */
     CARD_WRONG_BYTE = 21,         /* an allele of ALT has a byte that is no A, C, G, T or N in either case */
     CARD_ALT_IS_REF = 22,         /* an allele of ALT is equal to REF: the same letters, in either case */
-    CARD_EQUAL_ALTS = 23,         /* the second allele of ALT is equal to the first: the same letters, in either case */
-    CARD_WRONG_WEIGHT = 24,       /* a CW= in INFO is not 0 to 1000, decimal, without leading zero, or there is more than one */
-    CARD_WRONG_SCHEME = 32        /* the scheme is not 0, 1 or 2 */
+    CARD_EQUAL_ALTS = 23          /* the second allele of ALT is equal to the first: the same letters, in either case */
 };
 
 /*
@@ -144,14 +141,10 @@ static inline const char *card_refusal_text(uint32_t number)
         return "an allele of ALT is equal to REF: the same letters, in either case";
     case 23:
         return "the second allele of ALT is equal to the first: the same letters, in either case";
-    case 24:
-        return "a CW= in INFO is not 0 to 1000, decimal, without leading zero, or there is more than one";
     case 30:
         return "there is no run, or there are more than 256";
     case 31:
         return "a run counts more than 512 entries in a list";
-    case 32:
-        return "the scheme is not 0, 1 or 2";
     default:
         return "";
     }
@@ -161,7 +154,7 @@ static inline const char *card_refusal_text(uint32_t number)
  * What a call answers.
  *
  * Refused: number is a card_refusal above 0. list is the list that it is about, 1 or 2, and 0 where it is about none (1, 2,
- * 16, 17, 18, 32). line is the line in that list's text, from 1, and 0 where it is about none (those and 3). place is the byte in that
+ * 16, 17, 18). line is the line in that list's text, from 1, and 0 where it is about none (those and 3). place is the byte in that
  * line, from 0, where the allele at fault begins (20 to 23; 23 is told at the second), and 0 for all other numbers. value is 0.
  * A call with one list calls it list 1.
  *
@@ -182,14 +175,14 @@ enum { CARD_BASES_MOST = 65535, CARD_TEXT_MOST = 65536 };
  *             answers of every call
  * name        what CHROM of every record has to be; any bytes
  * text        the list: a version line, other lines that begin with ##, a column line, and 0 to 512 records of ten fields, as
- *             card_refusal has it; ID, QUAL and FILTER are not read, and of INFO only CW=, the entry's weight (card_scheme)
+ *             card_refusal has it; ID, QUAL, FILTER and INFO are not read
  * entry       the entry's number in the list, from 0
  * allele      0 for REF, 1 and 2 for the ALTs
  *
  * Answered: allele 0 is a part of the reference (list 0), 1 and 2 are parts of the text (list 1). The part begins at offset
  * line, from 0, and is value bytes long; place is 0. No allele is empty, so value is above 0 exactly where the call is answered.
  * The bytes there are those that were lent, in the case that they have.
- * Refused: 1, 3 to 9, 11 to 15, 20 to 24, and 18 last.
+ * Refused: 1, 3 to 9, 11 to 15, 20 to 23, and 18 last.
  */
 card_answer card_allele(const uint8_t *reference, size_t reference_count, const uint8_t *name, size_t name_count,
                         const uint8_t *text, size_t text_count, size_t entry, size_t allele);
@@ -202,9 +195,9 @@ card_answer card_allele(const uint8_t *reference, size_t reference_count, const 
  *
  * Answered: value is how many bytes were written, from the first on; no other byte of out changes. Header lines come first,
  * then the records by new POS, equal POS in the order read. Only POS, REF and ALT are replaced, REF and ALT in upper case in every
- * record; all other fields and the header lines keep their bytes, so each record keeps its weight. What is written is accepted by
- * every call, gives the same donors, and written again is itself.
- * Refused: 1, 2, 3 to 9, 11 to 15, 20 to 24. No byte of out changes.
+ * record; all other fields and the header lines keep their bytes. What is written is accepted by every call, gives the same donors,
+ * and written again is itself.
+ * Refused: 1, 2, 3 to 9, 11 to 15, 20 to 23. No byte of out changes.
  */
 card_answer card_normal(const uint8_t *reference, size_t reference_count, const uint8_t *name, size_t name_count,
                         const uint8_t *text, size_t text_count, uint8_t *out, size_t out_count);
@@ -231,53 +224,33 @@ enum { CARD_LEAST = 1024 };
  * plan              room for CARD_LEAST clusters or more; plan_count counts clusters, not bytes
  *
  * Answered: value is the number of clusters. The plan's first records, one a cluster, are written; no other record changes.
- * Refused: 1, 2, 3 to 9, 11 to 15, 20 to 24. No record changes.
+ * Refused: 1, 2, 3 to 9, 11 to 15, 20 to 23. No record changes.
  */
 card_answer card_plan(const uint8_t *reference, size_t reference_count, const uint8_t *name, size_t name_count,
                       const uint8_t *first, size_t first_count, const uint8_t *second, size_t second_count,
                       card_cluster *plan, size_t plan_count);
 
 /*
- * Which lists the score counts: the scheme, the first parameter of card_mark and card_mark_all.
- *
- * Each entry has a weight, 0 to 1000. INFO gives it: that one of its parts between semicolons which begins with CW= is CW= and the
- * weight, as in DP=30;CW=250. Where no part begins so, the weight is 1. Anything else in INFO is not read, also CW alone and cw=.
- *
- * What matches is the best pair of choices, one of each list: of those that give equal donors the one with the highest score, which
- * is the sum of the weights of its entries in the lists that the scheme counts. Where several have the highest score, it is the first
- * of them in dictionary order: entry by entry in merged order, '+' before '-' before '0'. So an entry of weight 0, or of a list that
- * is not counted, still matches where that comes first. The scheme decides marks and scores alone: the plan is the same under each.
- * Marks that are read together are made under one scheme.
- */
-enum card_scheme {
-    CARD_BOTH_LISTS = 0,  /* the weights of both lists are counted */
-    CARD_LIST_1_ONLY = 1, /* those of list 1 only */
-    CARD_LIST_2_ONLY = 2  /* those of list 2 only */
-};
-
-/*
  * What card_mark_all answers. Refused: number, list, line and place as in card_answer, and two zeros. Answered: these four are 0,
- * clusters is the number of clusters, and score the sum of the scores of those that are decided, at most 1,024,000.
+ * clusters is the number of clusters, and score the sum of the scores of those that are decided.
  */
 typedef struct {
     uint32_t number, list, line, place, clusters, score;
 } card_all_marked;
 
 /*
- * Marks a whole pair of lists: what card_plan and then card_mark of each cluster under the same scheme leave, for the cost of one
- * judging.
+ * Marks a whole pair of lists: what card_plan and then card_mark of each cluster leave, for the cost of one judging.
  *
- * scheme                                 a card_scheme
  * reference, name, first, second, plan   as for card_plan
  * marks                                  as for card_mark
  *
  * Answered: the plan's first records, one a cluster, and the first marks, one an entry, are written; no other record or byte
  * changes.
- * Refused: 32, 1, 2, 3 to 9, 11 to 15, 20 to 24. No record and no byte changes.
+ * Refused: 1, 2, 3 to 9, 11 to 15, 20 to 23. No record and no byte changes.
  */
-card_all_marked card_mark_all(uint32_t scheme, const uint8_t *reference, size_t reference_count, const uint8_t *name,
-                              size_t name_count, const uint8_t *first, size_t first_count, const uint8_t *second,
-                              size_t second_count, card_cluster *plan, size_t plan_count, uint8_t *marks, size_t marks_count);
+card_all_marked card_mark_all(const uint8_t *reference, size_t reference_count, const uint8_t *name, size_t name_count,
+                              const uint8_t *first, size_t first_count, const uint8_t *second, size_t second_count,
+                              card_cluster *plan, size_t plan_count, uint8_t *marks, size_t marks_count);
 
 /*
  * Where an entry stands: its list, 1 or 2; its number in that list, from 0; the line of its record in that list's text, from 1;
@@ -295,7 +268,7 @@ typedef struct {
  *
  * Answered: value is the number of entries of both lists. So many records are written, one an entry, in merged order: POS, then
  * list 1 before list 2, then order in the list; no other record changes.
- * Refused: 1, 2, 3 to 9, 11 to 15, 20 to 24. No record changes.
+ * Refused: 1, 2, 3 to 9, 11 to 15, 20 to 23. No record changes.
  */
 card_answer card_entries(const uint8_t *reference, size_t reference_count, const uint8_t *name, size_t name_count,
                          const uint8_t *first, size_t first_count, const uint8_t *second, size_t second_count,
@@ -304,7 +277,6 @@ card_answer card_entries(const uint8_t *reference, size_t reference_count, const
 /*
  * Marks the entries of one cluster.
  *
- * scheme     a card_scheme
  * reference, name, first, second   as for card_plan
  * plan       the plan of these lists, as card_plan writes it, in a buffer of CARD_LEAST clusters or more; what stands behind
  *            the plan's own may be anything
@@ -316,13 +288,13 @@ card_answer card_entries(const uint8_t *reference, size_t reference_count, const
  * Answered: the marks of the cluster's entries are written, and no other byte of marks changes. An entry that matches is '+'
  * where it is taken as written, and '-' where its two copies are exchanged. One that is left out is '0'. Of one list no two entries
  * match that overlap on a copy where both carry an allele other than REF; on a copy that carries REF an entry takes no room. value
- * is the cluster's score, the sum of the weights of its entries that match, in the lists that the scheme counts; at most 12,000. A
- * cluster of 13 entries or more is undecided: each of its marks is '?', and value is CARD_UNDECIDED.
- * Once each cluster has been answered under one scheme, in whatever order, every entry of a decided cluster has the mark that the
- * best pair over the two whole lists gives it.
- * Refused: 32, 1, 2, 3 to 9, 11 to 15, 20 to 24, 17, 16. No byte of marks changes.
+ * is the cluster's score, the number of its entries that match. A cluster of 13 entries or more is undecided: each of its marks is
+ * '?', and value is CARD_UNDECIDED.
+ * Once each cluster has been answered, in whatever order, every entry of a decided cluster has the mark that the best pair over
+ * the two whole lists gives it.
+ * Refused: 1, 2, 3 to 9, 11 to 15, 20 to 23, 17, 16. No byte of marks changes.
  */
-card_answer card_mark(uint32_t scheme, const uint8_t *reference, size_t reference_count, const uint8_t *name, size_t name_count,
+card_answer card_mark(const uint8_t *reference, size_t reference_count, const uint8_t *name, size_t name_count,
                       const uint8_t *first, size_t first_count, const uint8_t *second, size_t second_count,
                       const card_cluster *plan, size_t plan_count, size_t cluster, uint8_t *marks, size_t marks_count);
 
@@ -344,10 +316,9 @@ typedef struct {
  * reference, name, first, second   as for card_plan
  * marks      CARD_LEAST bytes or more, one an entry in merged order, as card_mark leaves them once each cluster has been answered
  *
- * An entry counts once, whatever its weight. The marks need not be those of these lists: each byte is taken for the mark of its
- * entry. A byte that is none of the four marks is counted nowhere, so the three counts of a list then add up to less than its
- * entries. Bytes behind the entries are not read.
- * Refused: 1, 2, 3 to 9, 11 to 15, 20 to 24.
+ * The marks need not be those of these lists: each byte is taken for the mark of its entry. A byte that is none of the four marks
+ * is counted nowhere, so the three counts of a list then add up to less than its entries. Bytes behind the entries are not read.
+ * Refused: 1, 2, 3 to 9, 11 to 15, 20 to 23.
  */
 card_counts card_count(const uint8_t *reference, size_t reference_count, const uint8_t *name, size_t name_count,
                        const uint8_t *first, size_t first_count, const uint8_t *second, size_t second_count,

@@ -120,14 +120,13 @@ static int compare(struct part reference, struct part first, struct part second)
     static uint8_t marks[CARD_LEAST];
     static card_entry entries[CARD_LEAST];
 
-    /* The entries of both lists count, each with its weight. */
-    card_all_marked marked = card_mark_all(CARD_BOTH_LISTS, reference.bytes, reference.count, name, sizeof name, first.bytes,
-                                           first.count, second.bytes, second.count, plan, CARD_LEAST, marks, CARD_LEAST);
+    card_all_marked marked = card_mark_all(reference.bytes, reference.count, name, sizeof name, first.bytes, first.count,
+                                           second.bytes, second.count, plan, CARD_LEAST, marks, CARD_LEAST);
     if (marked.number != CARD_ANSWERED) {
         print_refused(marked.number, marked.list, marked.line, marked.place);
         return REFUSED;
     }
-    /* The two calls refuse the same lists, so this one is answered. (The scheme is one of the three, so it is not refused.) */
+    /* The two calls refuse the same lists, so this one is answered. */
     card_answer merged = card_entries(reference.bytes, reference.count, name, sizeof name, first.bytes, first.count,
                                       second.bytes, second.count, entries, CARD_LEAST);
     print_matched(entries, marks, merged.value, first, second);

@@ -6,14 +6,11 @@
 
 use std::fmt;
 
-/// The version of include/card.h that this file follows: the major part and the minor part (CARD_VERSION).
-const VERSION: [u32; 2] = [4, 0];
+/// The version of include/card.h that this file follows (CARD_VERSION).
+const VERSION: u32 = 2 << 16 | 1;
 
 /// The room that a plan, a buffer of marks and one of entries must have: so many clusters, bytes, entries (CARD_LEAST).
 const LEAST: usize = 1024;
-
-/// The scheme under which the weights of both lists count (CARD_BOTH_LISTS).
-const BOTH_LISTS: u32 = 0;
 
 /// Each refusal in words: number, name, what is wrong, what to do.
 const REFUSALS: &str = include_str!("../../docs/refusals.tsv");
@@ -71,12 +68,11 @@ impl fmt::Display for Refusal {
 pub fn fits() -> bool {
     // SAFETY: the call takes nothing.
     let linked = unsafe { library::card_version() };
-    let [major, minor] = VERSION;
-    linked >> 16 == major && linked & 0xffff >= minor
+    linked >> 16 == VERSION >> 16 && linked & 0xffff >= VERSION & 0xffff
 }
 
 /// The entries of both lists in merged order, each with its mark: `+`, or `-` where it matches with its two copies exchanged;
-/// `0` where it does not match; `?` where its cluster is undecided. The weights of both lists count.
+/// `0` where it does not match; `?` where its cluster is undecided.
 pub fn marked(lists: &Lists) -> Result<Vec<(Entry, u8)>, Refusal> {
     let Lists { reference, name, first, second } = lists;
     let mut plan = [[0; 2]; LEAST];
@@ -85,7 +81,6 @@ pub fn marked(lists: &Lists) -> Result<Vec<(Entry, u8)>, Refusal> {
     // SAFETY: each pointer and length are those of a slice, and only `plan` and `marks`, which overlap no other, are written.
     let all = unsafe {
         library::card_mark_all(
-            BOTH_LISTS,
             reference.as_ptr(),
             reference.len(),
             name.as_ptr(),
@@ -158,7 +153,6 @@ mod library {
         pub fn card_version() -> u32;
 
         pub fn card_mark_all(
-            scheme: u32,
             reference: *const u8,
             reference_count: usize,
             name: *const u8,

@@ -68,9 +68,9 @@ static union told plan(const struct lent *l, const uint64_t *n)
 
 static union told mark(const struct lent *l, const uint64_t *n)
 {
-    return (union told){.answer = card_mark((uint32_t)n[0], l[0].bytes, l[0].count, l[1].bytes, l[1].count, l[2].bytes,
-                                            l[2].count, l[3].bytes, l[3].count, (void *)l[4].bytes,
-                                            l[4].count / sizeof(card_cluster), n[1], l[5].bytes, l[5].count)};
+    return (union told){.answer = card_mark(l[0].bytes, l[0].count, l[1].bytes, l[1].count, l[2].bytes, l[2].count,
+                                            l[3].bytes, l[3].count, (void *)l[4].bytes,
+                                            l[4].count / sizeof(card_cluster), n[0], l[5].bytes, l[5].count)};
 }
 
 static union told count(const struct lent *l, const uint64_t *n)
@@ -82,8 +82,9 @@ static union told count(const struct lent *l, const uint64_t *n)
 
 static union told mark_all(const struct lent *l, const uint64_t *n)
 {
-    return (union told){.all = card_mark_all((uint32_t)n[0], l[0].bytes, l[0].count, l[1].bytes, l[1].count, l[2].bytes,
-                                             l[2].count, l[3].bytes, l[3].count, (void *)l[4].bytes,
+    (void)n;
+    return (union told){.all = card_mark_all(l[0].bytes, l[0].count, l[1].bytes, l[1].count, l[2].bytes, l[2].count,
+                                             l[3].bytes, l[3].count, (void *)l[4].bytes,
                                              l[4].count / sizeof(card_cluster), l[5].bytes, l[5].count)};
 }
 
@@ -112,9 +113,9 @@ static const struct call calls[] = {
     {3, 2, 0, sizeof(card_answer), allele},
     {4, 0, 1, sizeof(card_answer), normal},
     {5, 0, 1, sizeof(card_answer), plan},
-    {6, 2, 1, sizeof(card_answer), mark},
+    {6, 1, 1, sizeof(card_answer), mark},
     {5, 0, 0, sizeof(card_counts), count},
-    {6, 1, 2, sizeof(card_all_marked), mark_all},
+    {6, 0, 2, sizeof(card_all_marked), mark_all},
     {5, 0, 1, sizeof(card_answer), entries},
     {0, 0, 0, sizeof(card_answer), version},
 };

@@ -7,7 +7,7 @@
  *               6 card_mark_all, 7 card_entries, 8 card_version;
  *               each lent buffer, in the call's order: its count of bytes (4) and its bytes, or 0xFFFFFFFF for the buffer that
  *               was lent last in this place, with what the call left in it;
- *               each number (8), in the call's order: the scheme of card_mark and card_mark_all is the first
+ *               each number (8)
  *   its answer  the numbers of card_answer, card_counts or card_all_marked (4 bytes each): number, list, line and place, then
  *               its values; of card_version those of a card_answer, its number 0 where the library's version is the header's,
  *               else 1;

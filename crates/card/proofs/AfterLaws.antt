@@ -36,13 +36,13 @@ module _ (marks : List ℕ) (i : Input) (fits : i.from + i.room ≤ length marks
 -- A refused call leaves the marks as they are.
 pub after_refused : (marks : List ℕ) (c : Call) → (input_of c).from + (input_of c).room ≤ length marks → (refusal_of c).number ≢ 0 → after marks c ≡ marks
 after_refused marks (mark i k) fits n =
-    ap (put marks i.from) (mark_kept i.scheme i.reference i.name i.first i.second i.plan k (lent marks i fits) (rw (lent_long marks i fits) n))
+    ap (put marks i.from) (mark_kept i.reference i.name i.first i.second i.plan k (lent marks i fits) (rw (lent_long marks i fits) n))
     ∙ put_same marks i.from (omega arith) i.room fits
 after_refused marks (mark_all i) fits n =
-    ap (put marks i.from) (all_refused i.scheme i.reference i.name i.first i.second i.plan (lent marks i fits) (rw (lent_long marks i fits) n)).2
+    ap (put marks i.from) (all_refused i.reference i.name i.first i.second i.plan (lent marks i fits) (rw (lent_long marks i fits) n)).2
     ∙ put_same marks i.from (omega arith) i.room fits
 
-module _ (scheme : ℕ) (reference name first second : List ℕ) (accepted1 : (judge_text (bases_of reference) name first).number ≡ 0) (accepted2 : (judge_text (bases_of reference) name second).number ≡ 0) where
+module _ (reference name first second : List ℕ) (accepted1 : (judge_text (bases_of reference) name first).number ≡ 0) (accepted2 : (judge_text (bases_of reference) name second).number ≡ 0) where
   abbrev cs : List (List Variant)
   cs = clusters_of (bases_of reference) first second
 
@@ -51,14 +51,14 @@ module _ (scheme : ℕ) (reference name first second : List ℕ) (accepted1 : (j
   count = length (merged_variants (bases_of reference) first second)
 
   abbrev right : List ℕ
-  right = all_marks scheme (bases_of reference) (clusters_of (bases_of reference) first second)
+  right = all_marks (bases_of reference) (clusters_of (bases_of reference) first second)
 
-  cluster_within : (k : ℕ) → first_entry cs k + length (marks_of scheme (bases_of reference) (cluster_at cs k)) ≤ count
+  cluster_within : (k : ℕ) → first_entry cs k + length (marks_of (bases_of reference) (cluster_at cs k)) ≤ count
   cluster_within k =
-      omega (arith, marks_long scheme (bases_of reference) (cluster_at cs k), first_within cs k, whole_long (bases_of reference) name first second accepted1 accepted2)
+      omega (arith, marks_long (bases_of reference) (cluster_at cs k), first_within cs k, whole_long (bases_of reference) name first second accepted1 accepted2)
 
   all_within : length right ≡ count
-  all_within = all_long scheme (bases_of reference) cs ∙ whole_long (bases_of reference) name first second accepted1 accepted2
+  all_within = all_long (bases_of reference) cs ∙ whole_long (bases_of reference) name first second accepted1 accepted2
 
   -- What an answered call on these lists leaves: some of the marks of all entries, in their places, and at least those of the clusters that it asks for.
   pub record Wrote (marks : List ℕ) (c : Call) : Type 0 where
@@ -70,42 +70,42 @@ module _ (scheme : ℕ) (reference name first second : List ℕ) (accepted1 : (j
     pub same : (i : ℕ) → i < length bytes → get_or bytes i 0 ≡ get_or right (at + i) 0
     pub asked : (k e : ℕ) → Asks k c → LiesIn (bases_of reference) first second k e → (at ≤ e) × (e < at + length bytes)
 
-  pub after_answered : (marks : List ℕ) (c : Call) → (input_of c).from + (input_of c).room ≤ length marks → OnThese scheme reference name first second (input_of c) → (refusal_of c).number ≡ 0 → Wrote marks c
+  pub after_answered : (marks : List ℕ) (c : Call) → (input_of c).from + (input_of c).room ≤ length marks → OnThese reference name first second (input_of c) → (refusal_of c).number ≡ 0 → Wrote marks c
   after_answered marks (mark i k) fits o z =
       let part = lent marks i fits in
-      let asked = mark_asked i.scheme i.reference i.name i.first i.second i.plan k i.room z in
+      let asked = mark_asked i.reference i.name i.first i.second i.plan k i.room z in
       let most = entries_most (bases_of reference) name first second accepted1 accepted2 in
-      let wrote = mark_written i.scheme i.reference i.name i.first i.second i.plan k part (rw (lent_long marks i fits) z) in
+      let wrote = mark_written i.reference i.name i.first i.second i.plan k part (rw (lent_long marks i fits) z) in
       let these : put part (first_entry (clusters_of (bases_of i.reference) i.first i.second) k)
-      (marks_of i.scheme (bases_of i.reference) (cluster_at (clusters_of (bases_of i.reference) i.first i.second) k))
-      ≡ put part (first_entry cs k) (marks_of scheme (bases_of reference) (cluster_at cs k)) =
-      rw (o.scheme_same, o.reference_same, o.first_same, o.second_same) in
+      (marks_of (bases_of i.reference) (cluster_at (clusters_of (bases_of i.reference) i.first i.second) k))
+      ≡ put part (first_entry cs k) (marks_of (bases_of reference) (cluster_at cs k)) =
+      rw (o.reference_same, o.first_same, o.second_same) in
       record {
         at = first_entry cs k;
-        bytes = marks_of scheme (bases_of reference) (cluster_at cs k);
+        bytes = marks_of (bases_of reference) (cluster_at cs k);
         wrote =
             ap (put marks i.from) (wrote ∙ these)
-            ∙ rw o.from_first (put_part marks (first_entry cs k) (omega (arith, cluster_within k, asked.roomy)) (marks_of scheme (bases_of reference) (cluster_at cs k)) i.room
+            ∙ rw o.from_first (put_part marks (first_entry cs k) (omega (arith, cluster_within k, asked.roomy)) (marks_of (bases_of reference) (cluster_at cs k)) i.room
             (omega (arith, cluster_within k, asked.roomy)) (omega arith));
         within = cluster_within k;
         enough = omega (arith, asked.roomy);
-        same = λ j h. sym (joined_at (marks_of scheme (bases_of reference)) (marks_long scheme (bases_of reference)) (marks_none scheme (bases_of reference)) cs k j 0
-            (omega (arith, marks_long scheme (bases_of reference) (cluster_at cs k))));
+        same = λ j h. sym (joined_at (marks_of (bases_of reference)) (marks_long (bases_of reference)) (marks_none (bases_of reference)) cs k j 0
+            (omega (arith, marks_long (bases_of reference) (cluster_at cs k))));
         asked = λ j e a l. own j e (omega (arith, a)) l;
       }
     where
-      own : (j e : ℕ) → j ≡ k → LiesIn (bases_of reference) first second j e → (first_entry cs k ≤ e) × (e < first_entry cs k + length (marks_of scheme (bases_of reference) (cluster_at cs k)))
+      own : (j e : ℕ) → j ≡ k → LiesIn (bases_of reference) first second j e → (first_entry cs k ≤ e) × (e < first_entry cs k + length (marks_of (bases_of reference) (cluster_at cs k)))
       own j e s l =
           let l' : LiesIn (bases_of reference) first second k e = rw s at l in
-          (omega (arith, l'.begun), omega (arith, l'.inside, marks_long scheme (bases_of reference) (cluster_at cs k)))
+          (omega (arith, l'.begun), omega (arith, l'.inside, marks_long (bases_of reference) (cluster_at cs k)))
   after_answered marks (mark_all i) fits o z =
       let part = lent marks i fits in
       let most = entries_most (bases_of reference) name first second accepted1 accepted2 in
-      let z' : (all_refusal i.scheme i.reference i.name i.first i.second (length i.plan) (length part)).number ≡ 0 = rw (lent_long marks i fits) z in
-      let roomy = all_roomy i.scheme i.reference i.name i.first i.second i.plan part z' in
-      let wrote = (all_given i.scheme i.reference i.name i.first i.second i.plan part z').2 in
-      let these : put part 0 (all_marks i.scheme (bases_of i.reference) (clusters_of (bases_of i.reference) i.first i.second)) ≡ put part 0 right =
-      rw (o.scheme_same, o.reference_same, o.first_same, o.second_same) in
+      let z' : (all_refusal i.reference i.name i.first i.second (length i.plan) (length part)).number ≡ 0 = rw (lent_long marks i fits) z in
+      let roomy = all_roomy i.reference i.name i.first i.second i.plan part z' in
+      let wrote = (all_given i.reference i.name i.first i.second i.plan part z').2 in
+      let these : put part 0 (all_marks (bases_of i.reference) (clusters_of (bases_of i.reference) i.first i.second)) ≡ put part 0 right =
+      rw (o.reference_same, o.first_same, o.second_same) in
       record {
         at = 0;
         bytes = right;
@@ -119,7 +119,7 @@ module _ (scheme : ℕ) (reference name first second : List ℕ) (accepted1 : (j
       }
 
   -- A call is refused, or it writes.
-  told : (marks : List ℕ) (c : Call) → Allowed scheme reference name first second (length marks) c → (after marks c ≡ marks) ⊎ Wrote marks c
+  told : (marks : List ℕ) (c : Call) → Allowed reference name first second (length marks) c → (after marks c ≡ marks) ⊎ Wrote marks c
   told marks c (fits, inl n) = inl (after_refused marks c fits n)
   told marks c (fits, inr o) = go (ℕ_discrete (refusal_of c).number 0)
     where
@@ -128,7 +128,7 @@ module _ (scheme : ℕ) (reference name first second : List ℕ) (accepted1 : (j
       go (no n) = inl (after_refused marks c fits n)
 
   -- The effect of one call.
-  module _ (marks : List ℕ) (c : Call) (a : Allowed scheme reference name first second (length marks) c) where
+  module _ (marks : List ℕ) (c : Call) (a : Allowed reference name first second (length marks) c) where
     pub after_long : length (after marks c) ≡ length marks
     after_long =
         ⊎_elim
@@ -167,7 +167,7 @@ module _ (scheme : ℕ) (reference name first second : List ℕ) (accepted1 : (j
     after_entry e s =
         ⊎_elim (λ r. ap (λ (l : List ℕ). get_or l e 0) r ∙ s) (λ w. either e w (dec_lt e w.at) (dec_lt e (w.at + length w.bytes)) s) (told marks c a)
 
-    pub after_asked : (k e : ℕ) → LiesIn (bases_of reference) first second k e → Answers scheme reference name first second k c → get_or (after marks c) e 0 ≡ get_or right e 0
+    pub after_asked : (k e : ℕ) → LiesIn (bases_of reference) first second k e → Answers reference name first second k c → get_or (after marks c) e 0 ≡ get_or right e 0
     after_asked k e l (o, asks, z) =
         let w = after_answered marks c a.0 o z in
         let (h, m) = w.asked k e asks l in

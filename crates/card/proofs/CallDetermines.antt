@@ -7,7 +7,6 @@ use contract.Lifetimes.{Lfts}
 use denote.Triple.Clauses.{AtExit}
 use denote.Triple.Entry.{Args, Res}
 use Rattle.clusters.proofs.LentDetermines.{Relation, States}
-use Rattle.matching.specs.Scheme.{both_lists}
 use Rattle.card.specs.All.{all_answered, empty_plan, all_plan, all_bytes}
 use Rattle.card.specs.Entries.{listed, listed_after}
 use Rattle.card.specs.Plan.{planned, plan_after}
@@ -43,22 +42,22 @@ entries_determines κs a z z' e e' p q = (p.0 ∙ sym q.0, p.1 ∙ sym q.1)
 
 abbrev pub MarkedAll : Relation mark-all.ended
 MarkedAll κs a z e =
-    (z ≡ all_answered a.0 a.1.0.now a.1.1.0.now a.1.1.1.0.now a.1.1.1.1.0.now (length a.1.1.1.1.1.0.now) (length a.1.1.1.1.1.1.0.now))
-    × (e.1.1.1.1.1.0.now ≡ all_plan a.0 a.1.0.now a.1.1.0.now a.1.1.1.0.now a.1.1.1.1.0.now a.1.1.1.1.1.0.now a.1.1.1.1.1.1.0.now)
-    × (e.1.1.1.1.1.1.0.now ≡ all_bytes a.0 a.1.0.now a.1.1.0.now a.1.1.1.0.now a.1.1.1.1.0.now a.1.1.1.1.1.0.now a.1.1.1.1.1.1.0.now)
+    (z ≡ all_answered a.0.now a.1.0.now a.1.1.0.now a.1.1.1.0.now (length a.1.1.1.1.0.now) (length a.1.1.1.1.1.0.now))
+    × (e.1.1.1.1.0.now ≡ all_plan a.0.now a.1.0.now a.1.1.0.now a.1.1.1.0.now a.1.1.1.1.0.now a.1.1.1.1.1.0.now)
+    × (e.1.1.1.1.1.0.now ≡ all_bytes a.0.now a.1.0.now a.1.1.0.now a.1.1.1.0.now a.1.1.1.1.0.now a.1.1.1.1.1.0.now)
 
 pub mark_all_states : States mark-all.ended (λ M 𝓤 𝓛. mark-all.clauses 𝓛) MarkedAll
 mark_all_states M 𝓤 𝓛 mem run κs a g z e = refl
 
 pub mark_all_determines : (κs : Lfts 6) (a : Args mark-all.signature κs) (z z' : Res mark-all.signature κs) (e e' : AtExit mark-all.ended κs)
-    → MarkedAll κs a z e → MarkedAll κs a z' e' → (z ≡ z') × (e.1.1.1.1.1.0.now ≡ e'.1.1.1.1.1.0.now) × (e.1.1.1.1.1.1.0.now ≡ e'.1.1.1.1.1.1.0.now)
+    → MarkedAll κs a z e → MarkedAll κs a z' e' → (z ≡ z') × (e.1.1.1.1.0.now ≡ e'.1.1.1.1.0.now) × (e.1.1.1.1.1.0.now ≡ e'.1.1.1.1.1.0.now)
 mark_all_determines κs a z z' e e' p q = (p.0 ∙ sym q.0, p.1 ∙ sym q.1, p.2 ∙ sym q.2)
 
 abbrev pub Marked : Relation marked-lists.ended
 Marked κs a z e =
-    (z.answer ≡ all_answered both_lists a.0.now a.1.0.now a.1.1.0.now a.1.1.1.0.now least_room (length a.1.1.1.1.0.now))
-    × (z.plan ≡ all_plan both_lists a.0.now a.1.0.now a.1.1.0.now a.1.1.1.0.now empty_plan a.1.1.1.1.0.now)
-    × (e.1.1.1.1.0.now ≡ all_bytes both_lists a.0.now a.1.0.now a.1.1.0.now a.1.1.1.0.now empty_plan a.1.1.1.1.0.now)
+    (z.answer ≡ all_answered a.0.now a.1.0.now a.1.1.0.now a.1.1.1.0.now least_room (length a.1.1.1.1.0.now))
+    × (z.plan ≡ all_plan a.0.now a.1.0.now a.1.1.0.now a.1.1.1.0.now empty_plan a.1.1.1.1.0.now)
+    × (e.1.1.1.1.0.now ≡ all_bytes a.0.now a.1.0.now a.1.1.0.now a.1.1.1.0.now empty_plan a.1.1.1.1.0.now)
 
 pub marked_lists_states : States marked-lists.ended (λ M 𝓤 𝓛. marked-lists.clauses 𝓛) Marked
 marked_lists_states M 𝓤 𝓛 mem run κs a g z e = refl

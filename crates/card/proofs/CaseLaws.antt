@@ -43,15 +43,15 @@ module _ (r s : List ℕ) (same : bases_of r ≡ bases_of s) where
       → (listed r name first second (length entries) ≡ listed s name first second (length entries)) × (listed_after r name first second entries ≡ listed_after s name first second entries)
   entries_case name first second entries = (rw (right, same), rw (right, same))
 
-  pub mark_case : (scheme : ℕ) (name first second : List ℕ) (plan : List Cluster) (k : ℕ) (marks : List ℕ)
-      → (marked scheme r name first second plan k (length marks) ≡ marked scheme s name first second plan k (length marks))
-      × (mark_after scheme r name first second plan k marks ≡ mark_after scheme s name first second plan k marks)
-  mark_case scheme name first second plan k marks = (rw (right, same), rw (right, same))
+  pub mark_case : (name first second : List ℕ) (plan : List Cluster) (k : ℕ) (marks : List ℕ)
+      → (marked r name first second plan k (length marks) ≡ marked s name first second plan k (length marks))
+      × (mark_after r name first second plan k marks ≡ mark_after s name first second plan k marks)
+  mark_case name first second plan k marks = (rw (right, same), rw (right, same))
 
-  pub all_case : (scheme : ℕ) (name first second : List ℕ) (plan : List Cluster) (marks : List ℕ)
-      → (all_answered scheme r name first second (length plan) (length marks) ≡ all_answered scheme s name first second (length plan) (length marks))
-      × (all_plan scheme r name first second plan marks ≡ all_plan scheme s name first second plan marks) × (all_bytes scheme r name first second plan marks ≡ all_bytes scheme s name first second plan marks)
-  all_case scheme name first second plan marks = (rw (right, same), rw (right, same), rw (right, same))
+  pub all_case : (name first second : List ℕ) (plan : List Cluster) (marks : List ℕ)
+      → (all_answered r name first second (length plan) (length marks) ≡ all_answered s name first second (length plan) (length marks))
+      × (all_plan r name first second plan marks ≡ all_plan s name first second plan marks) × (all_bytes r name first second plan marks ≡ all_bytes s name first second plan marks)
+  all_case name first second plan marks = (rw (right, same), rw (right, same), rw (right, same))
 
   pub count_case : (name first second marks : List ℕ) → counted r name first second marks ≡ counted s name first second marks
   count_case name first second marks = rw (right, same)

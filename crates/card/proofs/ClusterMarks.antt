@@ -23,19 +23,22 @@ use Rattle.clusters.proofs.CardClusters.{map_length, merged_count, clusters_join
 use Rattle.clusters.proofs.FirstLaws.{total}
 use Rattle.donors.specs.Apart.{All}
 use Rattle.clusters.proofs.JoinLaws.{joined_at}
-use Rattle.donors.specs.Choice.{Choice, plus, minus, out, Variant}
+use Rattle.donors.specs.Choice.{Choice, plus, minus, out, Variant, card_rules}
 use Rattle.donors.specs.Table.{most}
 use Rattle.matching.specs.Answer.{byte_of}
-use Rattle.matching.specs.Card.{card_best}
+use Rattle.matching.specs.Card.{card_scoring, card_finite, card_best}
 use Rattle.matching.specs.Cut.{join}
-use Rattle.marks.proofs.MarkLaws.{best_long}
+use Rattle.matching.proofs.BestOfLaws.{best_there}
 use Rattle.vcf.specs.Entry.{entries_of}
 use Rattle.vcf.specs.List.{judge_text}
 use Rattle.vcf.proofs.AcceptedLaws.{accepted_few}
 use Rattle.card.specs.Refusal.{least_room}
 
-bytes_long : (scheme : ℕ) (R : List ℕ) (c : List Variant) → length (map byte_of (card_best scheme R c)) ≡ length c
-bytes_long scheme R c = map_length byte_of (card_best scheme R c) ∙ best_long scheme R c
+best_long : (R : List ℕ) (c : List Variant) → length (card_best R c) ≡ length c
+best_long R c = (best_there card_rules card_scoring R c card_finite).legal.long
+
+bytes_long : (R : List ℕ) (c : List Variant) → length (map byte_of (card_best R c)) ≡ length c
+bytes_long R c = map_length byte_of (card_best R c) ∙ best_long R c
 
 empty_of : {A : Type 0} (l : List A) → length l ≡ 0 → l ≡ []
 empty_of [] e = refl
@@ -63,85 +66,81 @@ map_map : {A B C : Type 0} (f : A → B) (g : B → C) (cs : List A) → map g (
 map_map f g [] = refl
 map_map f g (c ∷ cs) = ap (λ l. g (f c) ∷ l) (map_map f g cs)
 
-module _ (scheme : ℕ) (reference : List ℕ) where
-  pub marks_long : (c : List Variant) → length (marks_of scheme reference c) ≡ length c
+module _ (reference : List ℕ) where
+  pub marks_long : (c : List Variant) → length (marks_of reference c) ≡ length c
   marks_long c = go (decided? c)
     where
-      go : (t : Bool) → length (pick t (map byte_of (card_best scheme reference c)) (replicate (length c) QUESTION)) ≡ length c
-      go true = bytes_long scheme reference c
+      go : (t : Bool) → length (pick t (map byte_of (card_best reference c)) (replicate (length c) QUESTION)) ≡ length c
+      go true = bytes_long reference c
       go false = length-replicate (length c) QUESTION
 
-  pub marks_none : marks_of scheme reference [] ≡ []
-  marks_none = empty_of (marks_of scheme reference []) (marks_long [])
+  pub marks_none : marks_of reference [] ≡ []
+  marks_none = empty_of (marks_of reference []) (marks_long [])
 
-  pub all_long : (cs : List (List Variant)) → length (all_marks scheme reference cs) ≡ length (join cs)
+  pub all_long : (cs : List (List Variant)) → length (all_marks reference cs) ≡ length (join cs)
   unfolding join
   all_long [] = refl
-  all_long (c ∷ cs) = omega (arith, length-append (marks_of scheme reference c) (all_marks scheme reference cs), length-append c (join cs), marks_long c, all_long cs)
+  all_long (c ∷ cs) = omega (arith, length-append (marks_of reference c) (all_marks reference cs), length-append c (join cs), marks_long c, all_long cs)
 
-module _ (reference name first second : List ℕ) (accepted1 : (judge_text reference name first).number ≡ 0) (accepted2 : (judge_text reference name second).number ≡ 0) where
-  abbrev cs : List (List Variant)
-  cs = clusters_of reference first second
+  module _ (name first second : List ℕ) (accepted1 : (judge_text reference name first).number ≡ 0) (accepted2 : (judge_text reference name second).number ≡ 0) where
+    abbrev cs : List (List Variant)
+    cs = clusters_of reference first second
 
-  pub whole_long : length (join (clusters_of reference first second)) ≡ length (merged_variants reference first second)
-  whole_long = ap length (clusters_join reference name first second accepted1 accepted2)
+    pub whole_long : length (join (clusters_of reference first second)) ≡ length (merged_variants reference first second)
+    whole_long = ap length (clusters_join reference name first second accepted1 accepted2)
 
-  pub clusters_long : length (join (clusters_of reference first second)) ≡ length (merged_items first second)
-  clusters_long = whole_long ∙ map_length (variant reference first second) (merged_items first second)
+    pub clusters_long : length (join (clusters_of reference first second)) ≡ length (merged_items first second)
+    clusters_long = whole_long ∙ map_length (variant reference first second) (merged_items first second)
 
-  pub entries_most : length (merged_variants reference first second) ≤ least_room
-  entries_most =
-      omega (
-        arith,
-        map_length (variant reference first second) (merged_items first second),
-        merged_count (entries_of first) (entries_of second),
-        accepted_few reference name first accepted1,
-        accepted_few reference name second accepted2,
-      )
+    pub marks_all : length (all_marks reference (clusters_of reference first second)) ≡ length (merged_items first second)
+    marks_all = all_long (clusters_of reference first second) ∙ clusters_long
 
-  -- The plan has at most as many clusters as there are entries.
-  pub plan_few : length (plan_of reference first second) ≤ least_room
-  plan_few =
-      omega (
-        arith,
-        total_least (plan_of reference first second) (plan_counts reference first second),
-        plan_total reference name first second accepted1 accepted2,
-        accepted_few reference name first accepted1,
-        accepted_few reference name second accepted2,
-      )
+    pub entries_most : length (merged_variants reference first second) ≤ least_room
+    entries_most =
+        omega (
+          arith,
+          map_length (variant reference first second) (merged_items first second),
+          merged_count (entries_of first) (entries_of second),
+          accepted_few reference name first accepted1,
+          accepted_few reference name second accepted2,
+        )
 
-module _ (scheme : ℕ) (reference name first second : List ℕ) (accepted1 : (judge_text reference name first).number ≡ 0) (accepted2 : (judge_text reference name second).number ≡ 0) where
-  abbrev clusters : List (List Variant)
-  clusters = clusters_of reference first second
+    -- The plan has at most as many clusters as there are entries.
+    pub plan_few : length (plan_of reference first second) ≤ least_room
+    plan_few =
+        omega (
+          arith,
+          total_least (plan_of reference first second) (plan_counts reference first second),
+          plan_total reference name first second accepted1 accepted2,
+          accepted_few reference name first accepted1,
+          accepted_few reference name second accepted2,
+        )
 
-  pub marks_all : length (all_marks scheme reference (clusters_of reference first second)) ≡ length (merged_items first second)
-  marks_all = all_long scheme reference (clusters_of reference first second) ∙ clusters_long reference name first second accepted1 accepted2
+    whole : map byte_of (card_best reference (merged_variants reference first second))
+        ≡ join (map (λ (c : List Variant). map byte_of (card_best reference c)) (clusters_of reference first second))
+    whole =
+        ap (map byte_of) (clusters_best reference name first second accepted1 accepted2)
+        ∙ map_join byte_of (map (card_best reference) cs)
+        ∙ ap join (map_map (card_best reference) (map byte_of) cs)
 
-  whole : map byte_of (card_best scheme reference (merged_variants reference first second))
-      ≡ join (map (λ (c : List Variant). map byte_of (card_best scheme reference c)) (clusters_of reference first second))
-  whole =
-      ap (map byte_of) (clusters_best reference name first second accepted1 accepted2 scheme)
-      ∙ map_join byte_of (map (card_best scheme reference) clusters)
-      ∙ ap join (map_map (card_best scheme reference) (map byte_of) clusters)
+    module _ (k i : ℕ) (h : i < length (cluster_at (clusters_of reference first second) k)) where
+      abbrev c : List Variant
+      c = cluster_at (clusters_of reference first second) k
 
-  module _ (k i : ℕ) (h : i < length (cluster_at (clusters_of reference first second) k)) where
-    abbrev c : List Variant
-    c = cluster_at (clusters_of reference first second) k
+      pub mark_best : length (cluster_at (clusters_of reference first second) k) ≤ most
+          → get_or (marks_of reference (cluster_at (clusters_of reference first second) k)) i 0
+          ≡ get_or (map byte_of (card_best reference (merged_variants reference first second))) (first_entry (clusters_of reference first second) k + i) 0
+      mark_best small =
+          rw (le-leb (length c) most small)
+          (sym (ap (λ (l : List ℕ). get_or l (first_entry cs k + i) 0) whole
+          ∙ joined_at (λ (c : List Variant). map byte_of (card_best reference c)) (bytes_long reference) (empty_of _ (bytes_long reference [])) cs k i 0 h))
 
-    pub mark_best : length (cluster_at (clusters_of reference first second) k) ≤ most
-        → get_or (marks_of scheme reference (cluster_at (clusters_of reference first second) k)) i 0
-        ≡ get_or (map byte_of (card_best scheme reference (merged_variants reference first second))) (first_entry (clusters_of reference first second) k + i) 0
-    mark_best small =
-        rw (le-leb (length c) most small)
-        (sym (ap (λ (l : List ℕ). get_or l (first_entry clusters k + i) 0) whole
-        ∙ joined_at (λ (c : List Variant). map byte_of (card_best scheme reference c)) (bytes_long scheme reference) (empty_of _ (bytes_long scheme reference [])) clusters k i 0 h))
+      pub mark_question : most < length (cluster_at (clusters_of reference first second) k) → get_or (marks_of reference (cluster_at (clusters_of reference first second) k)) i 0 ≡ QUESTION
+      mark_question large = rw (lt-leb (length c) most large) (get_or-replicate (length c) i QUESTION 0 h)
 
-    pub mark_question : most < length (cluster_at (clusters_of reference first second) k) → get_or (marks_of scheme reference (cluster_at (clusters_of reference first second) k)) i 0 ≡ QUESTION
-    mark_question large = rw (lt-leb (length c) most large) (get_or-replicate (length c) i QUESTION 0 h)
-
-    pub mark_only : get_or (marks_of scheme reference (cluster_at (clusters_of reference first second) k)) i 0 ≡ QUESTION → most < length (cluster_at (clusters_of reference first second) k)
-    mark_only = go (decided? c) refl
-      where
-        go : (t : Bool) → decided? c ≡ t → get_or (pick t (map byte_of (card_best scheme reference c)) (replicate (length c) QUESTION)) i 0 ≡ QUESTION → most < length c
-        go true e q = absurd (byte_not (card_best scheme reference c) i (omega (arith, best_long scheme reference c)) q)
-        go false e q = leb-false (length c) most e
+      pub mark_only : get_or (marks_of reference (cluster_at (clusters_of reference first second) k)) i 0 ≡ QUESTION → most < length (cluster_at (clusters_of reference first second) k)
+      mark_only = go (decided? c) refl
+        where
+          go : (t : Bool) → decided? c ≡ t → get_or (pick t (map byte_of (card_best reference c)) (replicate (length c) QUESTION)) i 0 ≡ QUESTION → most < length c
+          go true e q = absurd (byte_not (card_best reference c) i (omega (arith, best_long reference c)) q)
+          go false e q = leb-false (length c) most e

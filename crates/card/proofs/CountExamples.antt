@@ -14,19 +14,17 @@ use Rattle.bases.specs.Same.{agree?}
 use Rattle.marks.specs.Counts.{how_many, own_marks}
 use Rattle.clusters.specs.Merged.{weave, merged}
 use Rattle.matching.specs.Cut.{join}
-use Rattle.fields.specs.Bytes.{until, pieces}
+use Rattle.fields.specs.Bytes.{until}
 use Rattle.vcf.specs.Entry.{header_bytes, entries_from}
 use Rattle.fields.specs.Field.{full?, skip}
 use Rattle.fields.specs.Genotype.{copies_wrong?}
 use Rattle.fields.specs.Header.{header_wrong?}
-use Rattle.vcf.specs.List.{judge_lines, judge_text}
+use Rattle.vcf.specs.List.{lines_of, judge_lines, judge_text}
 use Rattle.fields.specs.Pos.{all_digits?, is_pos?, value_from}
-use Rattle.fields.specs.Weight.{weight_texts}
 use Rattle.card.specs.declared.count.Counted.{Counted}
 use Rattle.card.specs.Answer.{answer}
 use Rattle.card.specs.Count.{counted_of, no_counts, counted}
-use Rattle.fields.specs.Ascii.{ascii}
-use Rattle.card.specs.Examples.{chr1, hom, text}
+use Rattle.card.specs.Examples.{ascii, chr1, hom, text}
 
 -- What is answered for these marks.
 abbrev of : List ℕ → Counted
@@ -35,13 +33,13 @@ of marks =
 
 pub each_list : of (ascii "+0?" ++ replicate 1021 (code "+"))
     ≡ counted_of (answer 0 0 0 0 0) (record { first = record { matched = 0; unmatched = 1; undecided = 0 }; second = record { matched = 1; unmatched = 0; undecided = 1 } })
-unfolding letter_among letter_of all_letters? agree? weave merged join until header_bytes entries_from full? skip copies_wrong? header_wrong? pieces weight_texts judge_lines judge_text all_digits? is_pos? value_from
+unfolding letter_among letter_of all_letters? agree? weave merged join until header_bytes entries_from full? skip copies_wrong? header_wrong? lines_of judge_lines judge_text all_digits? is_pos? value_from
     first_told how_many own_marks
 each_list = refl
 
 pub no_mark : of (ascii "T0+" ++ replicate 1021 (code "+"))
     ≡ counted_of (answer 0 0 0 0 0) (record { first = record { matched = 0; unmatched = 1; undecided = 0 }; second = record { matched = 1; unmatched = 0; undecided = 0 } })
-unfolding letter_among letter_of all_letters? agree? weave merged join until header_bytes entries_from full? skip copies_wrong? header_wrong? pieces weight_texts judge_lines judge_text all_digits? is_pos? value_from
+unfolding letter_among letter_of all_letters? agree? weave merged join until header_bytes entries_from full? skip copies_wrong? header_wrong? lines_of judge_lines judge_text all_digits? is_pos? value_from
     first_told how_many own_marks
 no_mark = refl
 

@@ -33,7 +33,7 @@ use Rattle.card.specs.Mark.{small_room?}
 use Rattle.card.specs.Refusal.{no_refusal, least_room, lists_checks}
 use Rattle.card.proofs.AllLaws.{all_given}
 use Rattle.card.proofs.ClusterMarks.{marks_all}
-use Rattle.card.proofs.ListsLaws.{lists_numbered, lists_read, marks_read}
+use Rattle.card.proofs.ListsLaws.{lists_numbered, lists_read}
 use Rattle.card.proofs.ReadyLaws.{lists_answerable}
 use Rattle.bases.proofs.FirstLaws.{NoneHolds, First}
 use Rattle.card.proofs.RefusalLaws.{refused_iff, answered_iff}
@@ -71,22 +71,21 @@ module _ (reference name first second marks : List ℕ) where
     pub count_entries : Marked (take (length (merged_items first second)) marks) → AddUp first second (counted reference name first second marks)
     count_entries u = rw count_given (counts_entries (entries_of first) (entries_of second) marks count_room u)
 
-module _ (scheme : ℕ) (reference name first second : List ℕ) (plan : List Cluster) (marks : List ℕ) (z : (all_refusal scheme reference name first second (length plan) (length marks)).number ≡ 0) where
+module _ (reference name first second : List ℕ) (plan : List Cluster) (marks : List ℕ) (z : (all_refusal reference name first second (length plan) (length marks)).number ≡ 0) where
   -- the marks of all clusters
   abbrev these : List ℕ
-  these = all_marks scheme (bases_of reference) (clusters_of (bases_of reference) first second)
+  these = all_marks (bases_of reference) (clusters_of (bases_of reference) first second)
 
-  pub count_marked : ((count_refusal reference name first second (all_bytes scheme reference name first second plan marks)).number ≡ 0)
-      × AddUp first second (counted reference name first second (all_bytes scheme reference name first second plan marks))
+  pub count_marked : ((count_refusal reference name first second (all_bytes reference name first second plan marks)).number ≡ 0)
+      × AddUp first second (counted reference name first second (all_bytes reference name first second plan marks))
   count_marked =
-      let y = (marks_read scheme reference name first (small_room? (length plan) (length marks)) second z).1 in
-      let r = lists_read reference name first (small_room? (length plan) (length marks)) second y in
-      let most = (lists_answerable reference name first second (small_room? (length plan) (length marks)) y).0.entries in
-      let long = marks_all scheme (bases_of reference) name first second r.0.accepted r.1 in
+      let r = lists_read reference name first (small_room? (length plan) (length marks)) second z in
+      let most = (lists_answerable reference name first second (small_room? (length plan) (length marks)) z).0.entries in
+      let long = marks_all (bases_of reference) name first second r.0.accepted r.1 in
       let roomy = (neither (ltb (length plan) least_room) (ltb (length marks) least_room) r.0.roomy).1 in
       let same : length (put marks 0 these) ≡ length marks = put_length marks 0 (omega arith) these (omega (arith, ltb-false (length marks) least_room roomy)) in
       let left : ltb (length (put marks 0 these)) least_room ≡ small_room? (length plan) (length marks) = ap (λ (n : ℕ). ltb n least_room) same ∙ roomy ∙ sym r.0.roomy in
-      let e : (count_refusal reference name first second (put marks 0 these)).number ≡ 0 = rw left y in
+      let e : (count_refusal reference name first second (put marks 0 these)).number ≡ 0 = rw left z in
       let front : take (length (merged_items first second)) (put marks 0 these) ≡ these = ap (λ (n : ℕ). take n (put marks 0 these)) (sym long) ∙ take-append_seam these _ in
-      rw (all_given scheme reference name first second plan marks z).2
-      (e, count_entries reference name first second (put marks 0 these) e (rw front (all_marked_lem scheme (bases_of reference) (clusters_of (bases_of reference) first second))))
+      rw (all_given reference name first second plan marks z).2
+      (e, count_entries reference name first second (put marks 0 these) e (rw front (all_marked_lem (bases_of reference) (clusters_of (bases_of reference) first second))))

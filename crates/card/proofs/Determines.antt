@@ -22,8 +22,6 @@ use Rattle.card.proofs.lists.is_small.Kinds as is-small-kinds
 use Rattle.card.proofs.lists.is_small.Reads as is-small
 use Rattle.card.proofs.lists.list_refused.Kinds as list-refused-kinds
 use Rattle.card.proofs.lists.list_refused.Reads as list-refused
-use Rattle.card.proofs.lists.marks_refused.Kinds as marks-refused-kinds
-use Rattle.card.proofs.lists.marks_refused.Reads as marks-refused
 use Rattle.card.proofs.lists.lists_refused.Kinds as lists-refused-kinds
 use Rattle.card.proofs.lists.lists_refused.Reads as lists-refused
 use Rattle.card.proofs.normal_text.normal.Kinds as normal-kinds
@@ -55,9 +53,6 @@ list_refused_determines κs a z z' e e' p q = p ∙ sym q
 
 pub lists_refused_determines : OneResult 4 lists-refused-kinds.ps lists-refused-kinds.r lists-refused.Post
 lists_refused_determines κs a z z' e e' p q = p ∙ sym q
-
-pub marks_refused_determines : OneResult 4 marks-refused-kinds.ps marks-refused-kinds.r marks-refused.Post
-marks_refused_determines κs a z z' e e' p q = p ∙ sym q
 
 pub normal_determines : OneResult 4 normal-kinds.ps normal-kinds.r normal.Post
 normal_determines κs a z z' e e' p q = p.0 ∙ sym q.0

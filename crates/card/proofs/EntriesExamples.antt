@@ -15,18 +15,16 @@ use Rattle.listed.specs.Listed.{numbers_from, listed_from, listed_of}
 use Rattle.clusters.specs.Merged.{weave, merged}
 use Rattle.clusters.specs.Plan.{rest, plan, records_from}
 use Rattle.matching.specs.Cut.{join}
-use Rattle.fields.specs.Bytes.{until, pieces}
+use Rattle.fields.specs.Bytes.{until}
 use Rattle.vcf.specs.Entry.{header_bytes, header_lines, entries_from}
 use Rattle.fields.specs.Field.{full?, skip}
 use Rattle.fields.specs.Genotype.{copies_wrong?}
 use Rattle.fields.specs.Header.{header_wrong?}
-use Rattle.vcf.specs.List.{judge_lines, judge_text}
+use Rattle.vcf.specs.List.{lines_of, judge_lines, judge_text}
 use Rattle.fields.specs.Pos.{all_digits?, is_pos?, value_from}
-use Rattle.fields.specs.Weight.{weight_texts}
 use Rattle.card.specs.Answer.{answer}
 use Rattle.card.specs.Entries.{listed, listed_after}
-use Rattle.fields.specs.Ascii.{ascii}
-use Rattle.card.specs.Examples.{chr1, hom, text}
+use Rattle.card.specs.Examples.{ascii, chr1, hom, text}
 
 -- A record: list, entry, line, cluster.
 abbrev entry : ℕ → ℕ → ℕ → ℕ → Listed
@@ -40,18 +38,18 @@ abbrev second9 : List ℕ
 second9 = text (hom "1" "TG" "T" ∷ hom "5" "G" "GA" ∷ [])
 
 pub example_9 : listed_of (ascii "TGCCGT") first9 second9 ≡ entry 2 0 3 0 ∷ entry 1 0 3 0 ∷ entry 2 1 4 0 ∷ []
-unfolding letter_among letter_of all_letters? any_period? agree? numbers_from listed_from weave merged rest plan records_from join until header_bytes header_lines entries_from skip pieces
+unfolding letter_among letter_of all_letters? any_period? agree? numbers_from listed_from weave merged rest plan records_from join until header_bytes header_lines entries_from skip lines_of
     all_digits? is_pos? value_from
 example_9 = refl
 
 pub example_7 : listed_of (ascii "TATGCAGT") (text (hom "1" "TAT" "T" ∷ [])) (text (hom "7" "G" "C" ∷ [])) ≡ entry 1 0 3 0 ∷ entry 2 0 3 1 ∷ []
-unfolding letter_among letter_of all_letters? any_period? agree? numbers_from listed_from weave merged rest plan records_from join until header_bytes header_lines entries_from skip pieces
+unfolding letter_among letter_of all_letters? any_period? agree? numbers_from listed_from weave merged rest plan records_from join until header_bytes header_lines entries_from skip lines_of
     all_digits? is_pos? value_from
 example_7 = refl
 
 pub answered : listed (ascii "TGCCGT") chr1 first9 second9 1024 ≡ answer 0 0 0 0 3
 unfolding letter_among letter_of all_letters? any_period? agree? numbers_from listed_from weave merged rest plan records_from join until header_bytes header_lines entries_from full? skip copies_wrong?
-    header_wrong? pieces weight_texts judge_lines judge_text all_digits? is_pos? value_from first_told
+    header_wrong? lines_of judge_lines judge_text all_digits? is_pos? value_from first_told
 answered = refl
 
 pub too_few : listed (ascii "TGCCGT") chr1 first9 second9 1023 ≡ answer 2 0 0 0 0

@@ -41,12 +41,12 @@ module _ (reference name first second : List ℕ) (room : ℕ) where
   pub entries_answered_iff : (listed_refusal reference name first second room ≡ no_refusal) ↔ NoneHolds (lists_checks reference name first second (ltb room least_room))
   entries_answered_iff = plan_answered_iff reference name first second room
 
-  pub entries_marks : (scheme : ℕ) → (listed_refusal reference name first second room).number ≡ 0
-      → listed reference name first second room ≡ answer 0 0 0 0 (length (all_marks scheme (bases_of reference) (clusters_of (bases_of reference) first second)))
-  entries_marks scheme z =
+  pub entries_marks : (listed_refusal reference name first second room).number ≡ 0
+      → listed reference name first second room ≡ answer 0 0 0 0 (length (all_marks (bases_of reference) (clusters_of (bases_of reference) first second)))
+  entries_marks z =
       let r = lists_read reference name first (ltb room least_room) second z in
       (answer_given {A = ℕ} (listed_refusal reference name first second room) (length (listed_of (bases_of reference) first second)) [] [] z).0
-      ∙ ap (answer 0 0 0 0) (listed_length (bases_of reference) first second ∙ sym (marks_all scheme (bases_of reference) name first second r.0.accepted r.1))
+      ∙ ap (answer 0 0 0 0) (listed_length (bases_of reference) first second ∙ sym (marks_all (bases_of reference) name first second r.0.accepted r.1))
 
 -- Record k of clusters has the first entry of cluster k, and its number of entries.
 record_at_lem : {X : Type 0} (cs : List (List X)) (i k : ℕ) (d : Cluster) → k < length cs

@@ -35,14 +35,14 @@ module _ (reference first second : List ℕ) where
       go (no h) (no m) = omega arith
 
   -- The mark of an entry among those of all clusters is that of its cluster.
-  own_mark : (scheme k e : ℕ) → LiesIn reference first second k e
-      → get_or (all_marks scheme reference (clusters_of reference first second)) e 0
-      ≡ get_or (marks_of scheme reference (cluster_at (clusters_of reference first second) k)) (e - first_entry (clusters_of reference first second) k) 0
-  own_mark scheme k e l =
+  own_mark : (k e : ℕ) → LiesIn reference first second k e
+      → get_or (all_marks reference (clusters_of reference first second)) e 0
+      ≡ get_or (marks_of reference (cluster_at (clusters_of reference first second) k)) (e - first_entry (clusters_of reference first second) k) 0
+  own_mark k e l =
       let i = e - first_entry clusters k in
       let same : e ≡ first_entry clusters k + i = omega (arith, l.begun) in
-      ap (λ (n : ℕ). get_or (all_marks scheme reference clusters) n 0) same
-      ∙ joined_at (marks_of scheme reference) (marks_long scheme reference) (marks_none scheme reference) clusters k i 0 (omega (arith, l.begun, l.inside))
+      ap (λ (n : ℕ). get_or (all_marks reference clusters) n 0) same
+      ∙ joined_at (marks_of reference) (marks_long reference) (marks_none reference) clusters k i 0 (omega (arith, l.begun, l.inside))
 
 module _ (reference name first second : List ℕ) (accepted1 : (judge_text reference name first).number ≡ 0) (accepted2 : (judge_text reference name second).number ≡ 0) where
   abbrev cs : List (List Variant)
@@ -56,33 +56,33 @@ module _ (reference name first second : List ℕ) (accepted1 : (judge_text refer
       let o = join_of cs e (omega (arith, whole_long reference name first second accepted1 accepted2)) in
       (o.list, record { there = o.there; begun = omega (arith, o.at); inside = omega (arith, o.at, o.inside) })
 
-  pub entry_marked : (scheme : ℕ) (marks : List ℕ) (k e : ℕ) → LiesIn reference first second k e
-      → get_or marks e 0 ≡ get_or (all_marks scheme reference (clusters_of reference first second)) e 0
-      → EntryMarked reference first second (card_best scheme reference (merged_variants reference first second)) marks e
-  entry_marked scheme marks k e l right =
+  pub entry_marked : (marks : List ℕ) (k e : ℕ) → LiesIn reference first second k e
+      → get_or marks e 0 ≡ get_or (all_marks reference (clusters_of reference first second)) e 0
+      → EntryMarked reference first second (card_best reference (merged_variants reference first second)) marks e
+  entry_marked marks k e l right =
       let i = e - first_entry cs k in
       let inside : i < length (cluster_at cs k) = omega (arith, l.begun, l.inside) in
       let same : first_entry cs k + i ≡ e = omega (arith, l.begun) in
-      let own = right ∙ own_mark reference first second scheme k e l in
+      let own = right ∙ own_mark reference first second k e l in
       record {
         cluster = k;
         lies = l;
         nowhere_else = λ j m. lies_once reference first second j k e m l;
         best = λ small.
             own
-            ∙ mark_best scheme reference name first second accepted1 accepted2 k i inside (omega arith)
-            ∙ ap (λ (n : ℕ). get_or (map byte_of (card_best scheme reference (merged_variants reference first second))) n 0) same;
-        undecided = λ large. own ∙ mark_question scheme reference name first second accepted1 accepted2 k i inside (omega arith);
-        only_those = λ q. omega (arith, mark_only scheme reference name first second accepted1 accepted2 k i inside (sym own ∙ q));
+            ∙ mark_best reference name first second accepted1 accepted2 k i inside (omega arith)
+            ∙ ap (λ (n : ℕ). get_or (map byte_of (card_best reference (merged_variants reference first second))) n 0) same;
+        undecided = λ large. own ∙ mark_question reference name first second accepted1 accepted2 k i inside (omega arith);
+        only_those = λ q. omega (arith, mark_only reference name first second accepted1 accepted2 k i inside (sym own ∙ q));
       }
 
-  pub marked_same : (scheme : ℕ) (before marks others : List ℕ) → EntriesMarked reference first second scheme before marks → EntriesMarked reference first second scheme before others → marks ≡ others
-  marked_same scheme before marks others m n =
+  pub marked_same : (before marks others : List ℕ) → EntriesMarked reference first second before marks → EntriesMarked reference first second before others → marks ≡ others
+  marked_same before marks others m n =
       ext_get_or 0 marks others (m.long ∙ sym n.long) (λ e h. at e (dec_lt e count))
     where
       pairs : m.pair ≡ n.pair
       pairs =
-          let one = (clusters_pair reference name first second accepted1 accepted2 scheme).1 in
+          let one = (clusters_pair reference name first second accepted1 accepted2).1 in
           one m.pair m.is_best ∙ sym (one n.pair n.is_best)
 
       by_size : (e : ℕ) (x : EntryMarked reference first second m.pair marks e) (y : EntryMarked reference first second n.pair others e)

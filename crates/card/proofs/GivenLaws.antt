@@ -1,7 +1,6 @@
 -- Which numbers and places the calls give, in request a's words: "10 is given no more", and the place is "0 in all other rows" than 20 to 23
 -- "and where an allele is shown": that is `allele_answer_place` of card_abi/proofs/AnswerLaws.antt. (`given?` and its words are in vcf/proofs/GivenLaws.antt.)
---     list_given, lists_given, marks_given, mark_given, allele_given
---                                                           the refusals of calls with one list and with two, of those that mark, of `mark` and of `allele`
+--     list_given, lists_given, mark_given, allele_given     the refusals of calls with one list and with two, of `mark` and of `allele`
 --     answered_place                                        an answer that is no refusal has place 0
 -- Assumes nothing.
 use mathlib.Core.Bool.{Bool}
@@ -18,7 +17,7 @@ use Rattle.card.specs.declared.refusal.Refusal.{Refusal}
 use Rattle.card.specs.Allele.{allele_refusal}
 use Rattle.card.specs.Answer.{answer_of}
 use Rattle.card.specs.Mark.{mark_checks, mark_refusal}
-use Rattle.card.specs.Refusal.{no_refusal, first_refusal, list_checks, lists_checks, marks_checks}
+use Rattle.card.specs.Refusal.{no_refusal, first_refusal, list_checks, lists_checks}
 use Rattle.card.proofs.ShownLaws.{allele_checks}
 
 abbrev pub Given : Refusal → Type 0
@@ -37,15 +36,10 @@ module _ (reference name first : List ℕ) where
         first_all no_refusal Given tt (lists_checks reference name first second small)
         (tt, (tt, (judge_given (bases_of reference) name first, (judge_given (bases_of reference) name second, tt))))
 
-    pub marks_given : (scheme : ℕ) (small : Bool) → Given (first_refusal (marks_checks scheme reference name first second small))
-    marks_given scheme small =
-        first_all no_refusal Given tt (marks_checks scheme reference name first second small)
-        (tt, (tt, (tt, (judge_given (bases_of reference) name first, (judge_given (bases_of reference) name second, tt)))))
-
-    pub mark_given : (scheme : ℕ) (plan : List Cluster) (k room : ℕ) → Given (mark_refusal scheme reference name first second plan k room)
-    mark_given scheme plan k room =
-        first_all no_refusal Given tt (mark_checks scheme reference name first second plan k room)
-        (tt, (tt, (tt, (judge_given (bases_of reference) name first, (judge_given (bases_of reference) name second, (tt, (tt, tt)))))))
+    pub mark_given : (plan : List Cluster) (k room : ℕ) → Given (mark_refusal reference name first second plan k room)
+    mark_given plan k room =
+        first_all no_refusal Given tt (mark_checks reference name first second plan k room)
+        (tt, (tt, (judge_given (bases_of reference) name first, (judge_given (bases_of reference) name second, (tt, (tt, tt))))))
 
 pub answered_place : (r : Refusal) (value : ℕ) → r.number ≡ 0 → (answer_of r value).place ≡ 0
 answered_place r value z = rw (eq-eqb r.number 0 z)

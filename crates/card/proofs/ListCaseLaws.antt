@@ -79,7 +79,7 @@ module _ (t u v w : List ℕ) (firsts : SameEntries t v) (seconds : SameEntries 
 
   module _ (reference : List ℕ) where
     variant_same : (i j : Item) → SameItem i j → variant reference t u i ≡ variant reference v w j
-    variant_same i j s = rw (← s.side, s.entry.pos, s.entry.long, s.entry.first, s.entry.second, s.entry.copy0, s.entry.copy1, s.entry.weight)
+    variant_same i j s = rw (← s.side, s.entry.pos, s.entry.long, s.entry.first, s.entry.second, s.entry.copy0, s.entry.copy1)
 
     map_same : (is js : List Item) → Beside SameItem is js → map (variant reference t u) is ≡ map (variant reference v w) js
     map_same [] [] b = refl
@@ -96,14 +96,14 @@ module _ (t u v w : List ℕ) (firsts : SameEntries t v) (seconds : SameEntries 
     clusters_lists : clusters_of reference t u ≡ clusters_of reference v w
     clusters_lists = rw variants_case
 
-    pub marks_lists : (scheme : ℕ) → all_marks scheme reference (clusters_of reference t u) ≡ all_marks scheme reference (clusters_of reference v w)
-    marks_lists scheme = ap (all_marks scheme reference) clusters_lists
+    pub marks_lists : all_marks reference (clusters_of reference t u) ≡ all_marks reference (clusters_of reference v w)
+    marks_lists = ap (all_marks reference) clusters_lists
 
-    pub score_lists : (scheme : ℕ) → total_score scheme reference (clusters_of reference t u) ≡ total_score scheme reference (clusters_of reference v w)
-    score_lists scheme = ap (total_score scheme reference) clusters_lists
+    pub score_lists : total_score reference (clusters_of reference t u) ≡ total_score reference (clusters_of reference v w)
+    score_lists = ap (total_score reference) clusters_lists
 
-    pub asked_lists : (scheme k : ℕ) → asked_for scheme reference (clusters_of reference t u) k ≡ asked_for scheme reference (clusters_of reference v w) k
-    asked_lists scheme k = ap (λ (cs : List (List Variant)). asked_for scheme reference cs k) clusters_lists
+    pub asked_lists : (k : ℕ) → asked_for reference (clusters_of reference t u) k ≡ asked_for reference (clusters_of reference v w) k
+    asked_lists k = ap (λ (cs : List (List Variant)). asked_for reference cs k) clusters_lists
 
-    pub after_lists : (scheme k : ℕ) (marks : List ℕ) → marks_after scheme reference (clusters_of reference t u) k marks ≡ marks_after scheme reference (clusters_of reference v w) k marks
-    after_lists scheme k marks = ap (λ (cs : List (List Variant)). marks_after scheme reference cs k marks) clusters_lists
+    pub after_lists : (k : ℕ) (marks : List ℕ) → marks_after reference (clusters_of reference t u) k marks ≡ marks_after reference (clusters_of reference v w) k marks
+    after_lists k marks = ap (λ (cs : List (List Variant)). marks_after reference cs k marks) clusters_lists

@@ -4,13 +4,11 @@
 --     list_no_reference, list_small, list_fault, list_clear       the refusal of a call with one list
 --     lists_first, lists_fault, lists_clear                       the refusal of a call with two
 --     Read, list_read, lists_read           where there is none: the reference is one, the room is enough, and the lists are accepted
---     marks_numbered, marks_no_scheme, marks_schemed, marks_read
---                                           the refusal of a call that marks: 32, then those of two lists
 -- Assumes nothing.
 use mathlib.Core.Bool.{Bool, true, false}
 use mathlib.Core.List.{List, [], ◌∷◌}
 use mathlib.Core.Logic.{◌≢◌}
-use mathlib.Core.Path.{◌≡◌, sym, ap, ◌∙◌}
+use mathlib.Core.Path.{◌≡◌, ◌∙◌}
 use Prim.Native.Nat.{ℕ}
 use native.Mathlib.Nat.{suc-ne-zero}
 use borrow.Author.Tests.{eq-eqb, ne_eqb, eqb-true, not-false}
@@ -19,11 +17,9 @@ use Rattle.bases.specs.Letter.{bases_of}
 use Rattle.bases.specs.First.{first_told}
 use Rattle.bases.specs.Reference.{is_reference?}
 use Rattle.bases.proofs.TestLaws.{of_true}
-use Rattle.matching.specs.Scheme.{scheme?}
 use Rattle.vcf.specs.declared.list.Fault.{Fault}
 use Rattle.vcf.specs.List.{judge_text}
-use Rattle.card.specs.declared.refusal.Refusal.{Refusal}
-use Rattle.card.specs.Refusal.{refusal, no_refusal, first_refusal, list_check, list_checks, lists_checks, marks_checks}
+use Rattle.card.specs.Refusal.{refusal, no_refusal, first_refusal, list_check, list_checks, lists_checks}
 use Rattle.card.proofs.RefusalLaws.{Numbered, none_holds, first_keeps, first_goes}
 
 -- A call with one list goes on: the reference is one, the room is enough, and the list is accepted.
@@ -94,24 +90,3 @@ module _ (reference name : List ℕ) where
             record { right = not-false (is_reference? reference) none.0; roomy = none.1.0; accepted = accepted_of 1 first none.1.1.0 },
             accepted_of 2 second none.1.1.1.0,
           )
-
-      -- a call that marks
-      module _ (scheme : ℕ) where
-        pub marks_no_scheme : scheme? scheme ≡ false → first_refusal (marks_checks scheme reference name first second small) ≡ refusal 32 0 0 0
-        unfolding first_told
-        marks_no_scheme e = rw e
-
-        pub marks_schemed : scheme? scheme ≡ true
-            → first_refusal (marks_checks scheme reference name first second small) ≡ first_refusal (lists_checks reference name first second small)
-        unfolding first_told
-        marks_schemed e = rw e
-
-pub marks_numbered : (scheme : ℕ) (reference name first : List ℕ) (small : Bool) (second : List ℕ) → Numbered (marks_checks scheme reference name first second small)
-marks_numbered scheme reference name first small second = (λ h. suc-ne-zero 31, lists_numbered reference name first small second)
-
-pub marks_read : (scheme : ℕ) (reference name first : List ℕ) (small : Bool) (second : List ℕ) → (first_refusal (marks_checks scheme reference name first second small)).number ≡ 0
-    → (scheme? scheme ≡ true) × ((first_refusal (lists_checks reference name first second small)).number ≡ 0)
-marks_read scheme reference name first small second e =
-    let h = (none_holds (marks_checks scheme reference name first second small) (marks_numbered scheme reference name first small second) e).0 in
-    let t = not-false (scheme? scheme) h in
-    (t, ap (λ (r : Refusal). r.number) (sym (marks_schemed reference name first small second scheme t)) ∙ e)

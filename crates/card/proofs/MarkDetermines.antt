@@ -9,11 +9,11 @@ use Rattle.card.proofs.MarkSteps.{Said}
 use Rattle.card.specs.contracts.mark.mark as mark
 
 abbrev pub Marked : Relation mark.ended
-Marked κs a z e = Said κs a z e.1.1.1.1.1.1.1.0.now
+Marked κs a z e = Said κs a z e.1.1.1.1.1.1.0.now
 
 pub mark_states : States mark.ended (λ M 𝓤 𝓛. mark.clauses 𝓛) Marked
 mark_states M 𝓤 𝓛 mem run κs a g z e = refl
 
 pub mark_determines : (κs : Lfts 6) (a : Args mark.signature κs) (z z' : Res mark.signature κs) (e e' : AtExit mark.ended κs)
-    → Marked κs a z e → Marked κs a z' e' → (z ≡ z') × (e.1.1.1.1.1.1.1.0.now ≡ e'.1.1.1.1.1.1.1.0.now)
+    → Marked κs a z e → Marked κs a z' e' → (z ≡ z') × (e.1.1.1.1.1.1.0.now ≡ e'.1.1.1.1.1.1.0.now)
 mark_determines κs a z z' e e' p q = (p.0 ∙ sym q.0, p.1 ∙ sym q.1)

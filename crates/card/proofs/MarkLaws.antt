@@ -25,35 +25,30 @@ use Rattle.clusters.specs.Lent.{is_plan?}
 use Rattle.marks.specs.Marks.{clusters_of, first_entry, cluster_at, is_cluster?, marks_of, marked_of, not_found, asked_for, marks_after}
 use Rattle.clusters.specs.Plan.{plan_of}
 use Rattle.donors.specs.Choice.{Variant}
-use Rattle.matching.specs.Scheme.{scheme?}
 use Rattle.vcf.specs.List.{judge_text}
 use Rattle.card.specs.declared.refusal.Refusal.{Refusal}
 use Rattle.card.specs.Answer.{refused_answer, answer_of}
-use Rattle.card.specs.Refusal.{refusal, no_refusal, Check, check, first_refusal, least_room, marks_checks}
+use Rattle.card.specs.Refusal.{refusal, no_refusal, Check, check, first_refusal, least_room, lists_checks}
 use Rattle.card.specs.Mark.{mark_value, small_room?, mark_checks, mark_refusal, marked, answer_asked, mark_after}
-use Rattle.card.proofs.ListsLaws.{check_numbered, accepted_of, marks_numbered}
+use Rattle.card.proofs.ListsLaws.{check_numbered, accepted_of, lists_numbered}
 use Rattle.bases.proofs.FirstLaws.{NoneHolds, First}
 use Rattle.card.proofs.RefusalLaws.{Numbered, none_holds, first_keeps, first_goes, refused_iff, answered_iff}
 
-module _ (scheme : ℕ) (reference name first second : List ℕ) (plan : List Cluster) (k room : ℕ) where
-  pub mark_numbered : Numbered (mark_checks scheme reference name first second plan k room)
+module _ (reference name first second : List ℕ) (plan : List Cluster) (k room : ℕ) where
+  pub mark_numbered : Numbered (mark_checks reference name first second plan k room)
   mark_numbered = (
-    λ h. suc-ne-zero 31,
-    (
-      λ h. suc-ne-zero 0,
-      (λ h. suc-ne-zero 1, (check_numbered reference name 1 first, (check_numbered reference name 2 second, (λ h. suc-ne-zero 16, (λ h. suc-ne-zero 15, tt))))),
-    ),
+    λ h. suc-ne-zero 0,
+    (λ h. suc-ne-zero 1, (check_numbered reference name 1 first, (check_numbered reference name 2 second, (λ h. suc-ne-zero 16, (λ h. suc-ne-zero 15, tt))))),
   )
 
-  pub mark_refused_iff : (r : Refusal) → ((mark_refusal scheme reference name first second plan k room ≡ r) × (r.number ≢ 0)) ↔ First r (mark_checks scheme reference name first second plan k room)
-  mark_refused_iff = refused_iff (mark_checks scheme reference name first second plan k room) mark_numbered
+  pub mark_refused_iff : (r : Refusal) → ((mark_refusal reference name first second plan k room ≡ r) × (r.number ≢ 0)) ↔ First r (mark_checks reference name first second plan k room)
+  mark_refused_iff = refused_iff (mark_checks reference name first second plan k room) mark_numbered
 
-  pub mark_answered_iff : (mark_refusal scheme reference name first second plan k room ≡ no_refusal) ↔ NoneHolds (mark_checks scheme reference name first second plan k room)
-  mark_answered_iff = answered_iff (mark_checks scheme reference name first second plan k room) mark_numbered
+  pub mark_answered_iff : (mark_refusal reference name first second plan k room ≡ no_refusal) ↔ NoneHolds (mark_checks reference name first second plan k room)
+  mark_answered_iff = answered_iff (mark_checks reference name first second plan k room) mark_numbered
 
-  -- Cluster k is answered: the scheme and the reference are such, the room is enough, both lists are accepted, the plan is theirs, and there is such a cluster.
+  -- Cluster k is answered: the reference is one, the room is enough, both lists are accepted, the plan is theirs, and there is such a cluster.
   pub record Asked : Type 0 where
-    pub schemed : scheme? scheme ≡ true
     pub right : is_reference? reference ≡ true
     pub enough : least_room ≤ length plan
     pub roomy : least_room ≤ room
@@ -62,35 +57,34 @@ module _ (scheme : ℕ) (reference name first second : List ℕ) (plan : List Cl
     pub planned : is_plan? (plan_of (bases_of reference) first second) plan ≡ true
     pub there : k < length (clusters_of (bases_of reference) first second)
 
-  pub mark_asked : (mark_refusal scheme reference name first second plan k room).number ≡ 0 → Asked
+  pub mark_asked : (mark_refusal reference name first second plan k room).number ≡ 0 → Asked
   mark_asked e =
-      let none = none_holds (mark_checks scheme reference name first second plan k room) mark_numbered e in
-      let both = neither (ltb (length plan) least_room) (ltb room least_room) none.1.1.0 in
+      let none = none_holds (mark_checks reference name first second plan k room) mark_numbered e in
+      let both = neither (ltb (length plan) least_room) (ltb room least_room) none.1.0 in
       record {
-        schemed = not-false (scheme? scheme) none.0;
-        right = not-false (is_reference? reference) none.1.0;
+        right = not-false (is_reference? reference) none.0;
         enough = ltb-false (length plan) least_room both.0;
         roomy = ltb-false room least_room both.1;
-        accepted1 = accepted_of reference name 1 first none.1.1.1.0;
-        accepted2 = accepted_of reference name 2 second none.1.1.1.1.0;
-        planned = not-false (is_plan? (plan_of (bases_of reference) first second) plan) none.1.1.1.1.1.0;
-        there = ltb-true k (length (clusters_of (bases_of reference) first second)) (not-false (is_cluster? (clusters_of (bases_of reference) first second) k) none.1.1.1.1.1.1.0);
+        accepted1 = accepted_of reference name 1 first none.1.1.0;
+        accepted2 = accepted_of reference name 2 second none.1.1.1.0;
+        planned = not-false (is_plan? (plan_of (bases_of reference) first second) plan) none.1.1.1.1.0;
+        there = ltb-true k (length (clusters_of (bases_of reference) first second)) (not-false (is_cluster? (clusters_of (bases_of reference) first second) k) none.1.1.1.1.1.0);
       }
 
-module _ (scheme : ℕ) (reference name first second : List ℕ) (plan : List Cluster) (k : ℕ) (marks : List ℕ) where
-  pub mark_kept : (mark_refusal scheme reference name first second plan k (length marks)).number ≢ 0 → mark_after scheme reference name first second plan k marks ≡ marks
-  mark_kept n = rw (ne_eqb (mark_refusal scheme reference name first second plan k (length marks)).number 0 n)
+module _ (reference name first second : List ℕ) (plan : List Cluster) (k : ℕ) (marks : List ℕ) where
+  pub mark_kept : (mark_refusal reference name first second plan k (length marks)).number ≢ 0 → mark_after reference name first second plan k marks ≡ marks
+  mark_kept n = rw (ne_eqb (mark_refusal reference name first second plan k (length marks)).number 0 n)
 
-  pub mark_written : (mark_refusal scheme reference name first second plan k (length marks)).number ≡ 0
-      → mark_after scheme reference name first second plan k marks
-      ≡ put marks (first_entry (clusters_of (bases_of reference) first second) k) (marks_of scheme (bases_of reference) (cluster_at (clusters_of (bases_of reference) first second) k))
+  pub mark_written : (mark_refusal reference name first second plan k (length marks)).number ≡ 0
+      → mark_after reference name first second plan k marks
+      ≡ put marks (first_entry (clusters_of (bases_of reference) first second) k) (marks_of (bases_of reference) (cluster_at (clusters_of (bases_of reference) first second) k))
   mark_written e =
       let cs = clusters_of (bases_of reference) first second in
-      rw (eq-eqb (mark_refusal scheme reference name first second plan k (length marks)).number 0 e, lt-ltb k (length cs) (mark_asked scheme reference name first second plan k (length marks) e).there)
+      rw (eq-eqb (mark_refusal reference name first second plan k (length marks)).number 0 e, lt-ltb k (length cs) (mark_asked reference name first second plan k (length marks) e).there)
 
   -- The refusal of the lists.
   abbrev lists : Refusal
-  lists = first_refusal (marks_checks scheme reference name first second (small_room? (length plan) (length marks)))
+  lists = first_refusal (lists_checks reference name first second (small_room? (length plan) (length marks)))
 
   abbrev asks : List Check
   asks =
@@ -98,34 +92,34 @@ module _ (scheme : ℕ) (reference name first second : List ℕ) (plan : List Cl
       ∷ check (not (is_cluster? (clusters_of (bases_of reference) first second) k)) (refusal 16 0 0 0)
       ∷ []
 
-  pub mark_lists : (first_refusal (marks_checks scheme reference name first second (small_room? (length plan) (length marks)))).number ≢ 0
-      → (marked scheme reference name first second plan k (length marks) ≡ refused_answer (first_refusal (marks_checks scheme reference name first second (small_room? (length plan) (length marks)))))
-      × (mark_after scheme reference name first second plan k marks ≡ marks)
+  pub mark_lists : (first_refusal (lists_checks reference name first second (small_room? (length plan) (length marks)))).number ≢ 0
+      → (marked reference name first second plan k (length marks) ≡ refused_answer (first_refusal (lists_checks reference name first second (small_room? (length plan) (length marks)))))
+      × (mark_after reference name first second plan k marks ≡ marks)
   mark_lists n =
-      let e : mark_refusal scheme reference name first second plan k (length marks) ≡ lists = first_keeps (marks_checks scheme reference name first second (small_room? (length plan) (length marks))) asks n in
+      let e : mark_refusal reference name first second plan k (length marks) ≡ lists = first_keeps (lists_checks reference name first second (small_room? (length plan) (length marks))) asks n in
       let f = ne_eqb lists.number 0 n in
       (rw (e, f), rw (e, f))
 
-  pub mark_read : (first_refusal (marks_checks scheme reference name first second (small_room? (length plan) (length marks)))).number ≡ 0
-      → (marked scheme reference name first second plan k (length marks) ≡ answer_asked (is_plan? (plan_of (bases_of reference) first second) plan)
-      (asked_for scheme (bases_of reference) (clusters_of (bases_of reference) first second) k))
-      × (mark_after scheme reference name first second plan k marks ≡ pick (is_plan? (plan_of (bases_of reference) first second) plan)
-      (marks_after scheme (bases_of reference) (clusters_of (bases_of reference) first second) k marks) marks)
+  pub mark_read : (first_refusal (lists_checks reference name first second (small_room? (length plan) (length marks)))).number ≡ 0
+      → (marked reference name first second plan k (length marks) ≡ answer_asked (is_plan? (plan_of (bases_of reference) first second) plan)
+      (asked_for (bases_of reference) (clusters_of (bases_of reference) first second) k))
+      × (mark_after reference name first second plan k marks ≡ pick (is_plan? (plan_of (bases_of reference) first second) plan)
+      (marks_after (bases_of reference) (clusters_of (bases_of reference) first second) k marks) marks)
   unfolding first_told
   mark_read z =
-      let e : mark_refusal scheme reference name first second plan k (length marks) ≡ first_refusal asks =
-      first_goes (marks_checks scheme reference name first second (small_room? (length plan) (length marks))) asks (marks_numbered scheme reference name first (small_room? (length plan) (length marks)) second) z in
+      let e : mark_refusal reference name first second plan k (length marks) ≡ first_refusal asks =
+      first_goes (lists_checks reference name first second (small_room? (length plan) (length marks))) asks (lists_numbered reference name first (small_room? (length plan) (length marks)) second) z in
       rw e (go (is_plan? (plan_of (bases_of reference) first second) plan) (is_cluster? (clusters_of (bases_of reference) first second) k))
     where
       c : List Variant
       c = cluster_at (clusters_of (bases_of reference) first second) k
 
       go : (s t : Bool)
-          → (answer_of (pick (not s) (refusal 17 0 0 0) (pick (not t) (refusal 16 0 0 0) no_refusal)) (mark_value scheme (bases_of reference) c)
-          ≡ answer_asked s (pick t (marked_of scheme (bases_of reference) c) not_found))
+          → (answer_of (pick (not s) (refusal 17 0 0 0) (pick (not t) (refusal 16 0 0 0) no_refusal)) (mark_value (bases_of reference) c)
+          ≡ answer_asked s (pick t (marked_of (bases_of reference) c) not_found))
           × (pick (eqb (pick (not s) (refusal 17 0 0 0) (pick (not t) (refusal 16 0 0 0) no_refusal)).number 0)
-          (pick t (put marks (first_entry (clusters_of (bases_of reference) first second) k) (marks_of scheme (bases_of reference) c)) marks) marks
-          ≡ pick s (pick t (put marks (first_entry (clusters_of (bases_of reference) first second) k) (marks_of scheme (bases_of reference) c)) marks) marks)
+          (pick t (put marks (first_entry (clusters_of (bases_of reference) first second) k) (marks_of (bases_of reference) c)) marks) marks
+          ≡ pick s (pick t (put marks (first_entry (clusters_of (bases_of reference) first second) k) (marks_of (bases_of reference) c)) marks) marks)
       go true true = (refl, refl)
       go true false = (refl, refl)
       go false t = (refl, refl)

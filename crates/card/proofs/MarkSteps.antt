@@ -10,7 +10,7 @@ use mathlib.Core.Path.{◌≡◌}
 use Prim.Native.Nat.{ℕ, ◌<◌, ◌^◌}
 use lib.ListN.{length}
 use seplogic.Ra.Ura.{Ura}
-use mir.Syntax.{Ty, named, erased, imm, mut, w8, w32, w64, ty_int, ty_ref}
+use mir.Syntax.{Ty, named, erased, imm, mut, w8, w64, ty_int, ty_ref}
 use mir.Val.{Val, vint}
 use base.Logic.{SProp, ent, emp, via, fst∗}
 use prog.Memory.{Memory}
@@ -23,7 +23,7 @@ use denote.RattleType.{RattleType}
 use denote.Laws.{Is}
 use denote.Memory.{pointee}
 use denote.Plain.{uint_vals, uint_Tells}
-use denote.Builtin.{u8, u32, usize}
+use denote.Builtin.{u8, usize}
 use denote.Slice.{slice_ty, MutSlice, ShrSlice, finally, shr_slice_vals, mut_slice_Tells, shr_slice_Tells}
 use denote.Signature.{plain}
 use denote.Steps.{owned, nothing}
@@ -54,28 +54,27 @@ again = slice_ty pointer
 
 abbrev pub Params : Lfts 6 → List RattleType
 Params κs =
-    u32 ∷ ShrSlice (named 0) κs.0 u8 ∷ ShrSlice (named 1) κs.1.0 u8 ∷ ShrSlice (named 2) κs.1.1.0 u8 ∷ ShrSlice (named 3) κs.1.1.1.0 u8 ∷ ShrSlice (named 4) κs.1.1.1.1.0 R ∷ usize
+    ShrSlice (named 0) κs.0 u8 ∷ ShrSlice (named 1) κs.1.0 u8 ∷ ShrSlice (named 2) κs.1.1.0 u8 ∷ ShrSlice (named 3) κs.1.1.1.0 u8 ∷ ShrSlice (named 4) κs.1.1.1.1.0 R ∷ usize
     ∷ MutSlice (named 5) κs.1.1.1.1.1.0 u8 ∷ []
 
 -- of what was lent to be read nothing is had at the end
 abbrev stayed : Stays (mark.ended).signature.params (mark.ended).kept
-stayed = (stay_dropped _ yes, (stay_dropped _ yes, (stay_dropped _ yes, (stay_dropped _ yes, (stay_dropped _ yes, (stay_dropped _ yes, (stay_dropped _ yes, (gave_slice (5 ∷ []) tt (plain (λ _. u8)), tt))))))))
+stayed = (stay_dropped _ yes, (stay_dropped _ yes, (stay_dropped _ yes, (stay_dropped _ yes, (stay_dropped _ yes, (stay_dropped _ yes, (gave_slice (5 ∷ []) tt (plain (λ _. u8)), tt)))))))
 
 module _ (κs : Lfts 6) (a : Args mark.signature κs) where
   pub record Counts : Type 0 where
-    pub scheme : a.0 < 2 ^ 32
-    pub reference : length a.1.0.now < 2 ^ 64
-    pub name : length a.1.1.0.now < 2 ^ 64
-    pub first : length a.1.1.1.0.now < 2 ^ 64
-    pub second : length a.1.1.1.1.0.now < 2 ^ 64
-    pub plan : length a.1.1.1.1.1.0.now < 2 ^ 64
-    pub cluster : a.1.1.1.1.1.1.0 < 2 ^ 64
-    pub marks : length a.1.1.1.1.1.1.1.0.now < 2 ^ 64
+    pub reference : length a.0.now < 2 ^ 64
+    pub name : length a.1.0.now < 2 ^ 64
+    pub first : length a.1.1.0.now < 2 ^ 64
+    pub second : length a.1.1.1.0.now < 2 ^ 64
+    pub plan : length a.1.1.1.1.0.now < 2 ^ 64
+    pub cluster : a.1.1.1.1.1.0 < 2 ^ 64
+    pub marks : length a.1.1.1.1.1.1.0.now < 2 ^ 64
 
   abbrev pub Said : Answer → List ℕ → Type 0
   Said b ws =
-      (b ≡ marked a.0 a.1.0.now a.1.1.0.now a.1.1.1.0.now a.1.1.1.1.0.now a.1.1.1.1.1.0.now a.1.1.1.1.1.1.0 (length a.1.1.1.1.1.1.1.0.now))
-      × (ws ≡ mark_after a.0 a.1.0.now a.1.1.0.now a.1.1.1.0.now a.1.1.1.1.0.now a.1.1.1.1.1.0.now a.1.1.1.1.1.1.0 a.1.1.1.1.1.1.1.0.now)
+      (b ≡ marked a.0.now a.1.0.now a.1.1.0.now a.1.1.1.0.now a.1.1.1.1.0.now a.1.1.1.1.1.0 (length a.1.1.1.1.1.1.0.now))
+      × (ws ≡ mark_after a.0.now a.1.0.now a.1.1.0.now a.1.1.1.0.now a.1.1.1.1.0.now a.1.1.1.1.1.0 a.1.1.1.1.1.1.0.now)
 
 module _ {M : Type 1} {𝓤 : Ura M} (𝓛 : Logic 𝓤) (mem : Memory → SProp 𝓤) (run : Routine → Fun 𝓤) (κs : Lfts 6) (qs : Shares 6) (a : Args mark.signature κs) where
   abbrev pub passed : (walk_of 𝓛 mark.ended stayed (mark.clauses 𝓛 mem run)).Ghost
@@ -86,13 +85,10 @@ module _ {M : Type 1} {𝓤 : Ura M} (𝓛 : Logic 𝓤) (mem : Memory → SProp
       tt,
       a,
       (
-        vint w32 a.0 ∷ [],
+        shr_slice_vals a.0,
         (
           shr_slice_vals a.1.0,
-          (
-            shr_slice_vals a.1.1.0,
-            (shr_slice_vals a.1.1.1.0, (shr_slice_vals a.1.1.1.1.0, (shr_slice_vals a.1.1.1.1.1.0, (vint w64 a.1.1.1.1.1.1.0 ∷ [], (shr_slice_vals a.1.1.1.1.1.1.1.0, tt))))),
-          ),
+          (shr_slice_vals a.1.1.0, (shr_slice_vals a.1.1.1.0, (shr_slice_vals a.1.1.1.1.0, (vint w64 a.1.1.1.1.1.0 ∷ [], (shr_slice_vals a.1.1.1.1.1.1.0, tt))))),
         ),
       ),
     ),
@@ -105,13 +101,13 @@ module _ {M : Type 1} {𝓤 : Ura M} (𝓛 : Logic 𝓤) (mem : Memory → SProp
   abbrev pub Post : Val → SProp 𝓤
   Post = (walk_of 𝓛 mark.ended stayed (mark.clauses 𝓛 mem run)).post passed
 
-  pub exits : (b : Answer) (v : Val) → Is Answer'.the_row b (v ∷ []) → (ws : List ℕ) → length ws ≡ length a.1.1.1.1.1.1.1.0.now → Said κs a b ws
-      → ent 𝓤 (⋆ 𝓛 (tokens 𝓤 6 κs qs ++ (‵ (finally u8 a.1.1.1.1.1.1.1.0.name ws) ∷ []))) (Post v)
+  pub exits : (b : Answer) (v : Val) → Is Answer'.the_row b (v ∷ []) → (ws : List ℕ) → length ws ≡ length a.1.1.1.1.1.1.0.now → Said κs a b ws
+      → ent 𝓤 (⋆ 𝓛 (tokens 𝓤 6 κs qs ++ (‵ (finally u8 a.1.1.1.1.1.1.0.name ws) ∷ []))) (Post v)
   exits b v is ws len p =
-      qed 𝓛 (tokens 𝓤 6 κs qs ++ (‵ (finally u8 a.1.1.1.1.1.1.1.0.name ws) ∷ [])) ∵
-      suffices ! _ (ends_at 𝓛 mark.ended stayed (mark.clauses 𝓛 mem run) passed v b (tt, (tt, (tt, (tt, (tt, (tt, (tt, (ws, tt)))))))) (tt, (tt, (tt, (tt, (tt, (tt, (tt, (len, tt))))))))) $ says ! p $
+      qed 𝓛 (tokens 𝓤 6 κs qs ++ (‵ (finally u8 a.1.1.1.1.1.1.0.name ws) ∷ [])) ∵
+      suffices ! _ (ends_at 𝓛 mark.ended stayed (mark.clauses 𝓛 mem run) passed v b (tt, (tt, (tt, (tt, (tt, (tt, (ws, tt))))))) (tt, (tt, (tt, (tt, (tt, (tt, (len, tt)))))))) $ says ! p $
       tokens_in 𝓛 6 κs qs $ frame ! $
-      nothing ! $ move ! (1 ∷ 0 ∷ []) $ fjoin ! $ nothing ! $ fjoin ! $ nothing ! $ fjoin ! $ nothing ! $ fjoin ! $ nothing ! $ fjoin ! $ nothing ! $ fjoin ! $ nothing ! $ fjoin ! $ nothing ! $ fjoin ! $ frame ! $
+      nothing ! $ move ! (1 ∷ 0 ∷ []) $ fjoin ! $ nothing ! $ fjoin ! $ nothing ! $ fjoin ! $ nothing ! $ fjoin ! $ nothing ! $ fjoin ! $ nothing ! $ fjoin ! $ nothing ! $ fjoin ! $ frame ! $
       owned ! Answer'.the_row (Is Answer'.the_row) ((LL.makes Answer'.the_type Answer''.the_plain) 𝓛) b (v ∷ []) is $ done !
 
 module _ {M : Type 1} {𝓤 : Ura M} (𝓛 : Logic 𝓤) (mem : Memory → SProp 𝓤) (run : Routine → Fun 𝓤) where
@@ -125,34 +121,30 @@ module _ {M : Type 1} {𝓤 : Ura M} (𝓛 : Logic 𝓤) (mem : Memory → SProp
         (λ κs x f vs ok. silent),
         (
           (λ κs x f vs ok. silent),
-          ((λ κs x f vs ok. silent), ((λ κs x f vs ok. silent), ((λ κs x f vs ok. silent), ((λ κs x f vs ok. silent), ((λ κs x f vs ok. silent), (Goes-gave_slice 𝓛 6 5 tt (plain (λ _. u8)), tt)))))),
+          ((λ κs x f vs ok. silent), ((λ κs x f vs ok. silent), ((λ κs x f vs ok. silent), ((λ κs x f vs ok. silent), (Goes-gave_slice 𝓛 6 5 tt (plain (λ _. u8)), tt))))),
         ),
       )
       (mark.clauses 𝓛 mem run) body mono
-      (walked 𝓛 mark.ended stayed (mark.clauses 𝓛 mem run) body (λ κs. (uint_vals w32, (shr_slice_vals, (shr_slice_vals, (shr_slice_vals, (shr_slice_vals, (shr_slice_vals, (uint_vals w64, (shr_slice_vals, tt)))))))))
+      (walked 𝓛 mark.ended stayed (mark.clauses 𝓛 mem run) body (λ κs. (shr_slice_vals, (shr_slice_vals, (shr_slice_vals, (shr_slice_vals, (shr_slice_vals, (uint_vals w64, (shr_slice_vals, tt))))))))
       (λ κs. (
-        uint_Tells w32,
+        shr_slice_Tells (named 0) κs.0 u8,
         (
-          shr_slice_Tells (named 0) κs.0 u8,
+          shr_slice_Tells (named 1) κs.1.0 u8,
           (
-            shr_slice_Tells (named 1) κs.1.0 u8,
+            shr_slice_Tells (named 2) κs.1.1.0 u8,
             (
-              shr_slice_Tells (named 2) κs.1.1.0 u8,
-              (
-                shr_slice_Tells (named 3) κs.1.1.1.0 u8,
-                (shr_slice_Tells (named 4) κs.1.1.1.1.0 R, (uint_Tells w64, (mut_slice_Tells (named 5) κs.1.1.1.1.1.0 u8, tt))),
-              ),
+              shr_slice_Tells (named 3) κs.1.1.1.0 u8,
+              (shr_slice_Tells (named 4) κs.1.1.1.1.0 R, (uint_Tells w64, (mut_slice_Tells (named 5) κs.1.1.1.1.1.0 u8, tt))),
             ),
           ),
         ),
       ))
       (λ κs qs bounds a g are. via 𝓤 _ (fst∗ 𝓤 _ (emp 𝓤)) (walk κs qs a (record {
-        scheme = are.0.1;
-        reference = are.1.0.0.1.0;
-        name = are.1.1.0.0.1.0;
-        first = are.1.1.1.0.0.1.0;
-        second = are.1.1.1.1.0.0.1.0;
-        plan = are.1.1.1.1.1.0.0.1.0;
-        cluster = are.1.1.1.1.1.1.0.1;
-        marks = are.1.1.1.1.1.1.1.0.0.1.0;
+        reference = are.0.0.1.0;
+        name = are.1.0.0.1.0;
+        first = are.1.1.0.0.1.0;
+        second = are.1.1.1.0.0.1.0;
+        plan = are.1.1.1.1.0.0.1.0;
+        cluster = are.1.1.1.1.1.0.1;
+        marks = are.1.1.1.1.1.1.0.0.1.0;
       }))))

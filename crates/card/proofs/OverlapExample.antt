@@ -20,14 +20,13 @@ use Rattle.matching.specs.Search.{first?, better, best_over, search}
 use Rattle.normal.specs.Cut.{run, all?, shortest}
 use Rattle.normal.specs.Spelled.{normal_entry}
 use Rattle.written.specs.Written.{digits_of, written_line, put_line, written_lines, text_of, written_text}
-use Rattle.fields.specs.Bytes.{until, pieces}
+use Rattle.fields.specs.Bytes.{until}
 use Rattle.vcf.specs.Entry.{header_bytes, entries_from}
 use Rattle.fields.specs.Field.{full?, skip}
 use Rattle.fields.specs.Genotype.{copies_wrong?}
 use Rattle.fields.specs.Header.{header_wrong?}
-use Rattle.vcf.specs.List.{judge_lines, judge_text}
+use Rattle.vcf.specs.List.{lines_of, judge_lines, judge_text}
 use Rattle.fields.specs.Pos.{all_digits?, is_pos?, value_from}
-use Rattle.fields.specs.Weight.{weight_texts}
 use Rattle.card.specs.Examples.{text, hom, cluster, Example, normal, marks}
 use Rattle.card.proofs.Examples.{Holds, three, six}
 
@@ -48,6 +47,6 @@ overlap =
 
 pub overlap_holds : All Holds overlap
 unfolding letter_among letter_of all_letters? any_period? agree? weave merged rest plan records_from total_score chain? donor_from edits score every? allowed? best_of join first? better best_over search run all?
-    shortest normal_entry digits_of written_line put_line written_lines text_of written_text until header_bytes entries_from full? skip copies_wrong? header_wrong? pieces weight_texts judge_lines judge_text
+    shortest normal_entry digits_of written_line put_line written_lines text_of written_text until header_bytes entries_from full? skip copies_wrong? header_wrong? lines_of judge_lines judge_text
     all_digits? is_pos? value_from first_told
 overlap_holds = (six, (three, (six, tt)))

@@ -4,20 +4,19 @@
 use mathlib.Core.Bool.{Bool, false}
 use mathlib.Core.List.{List}
 use mathlib.Core.Path.{◌≡◌}
-use Prim.Native.Nat.{ℕ, ◌*◌, ◌≤◌}
+use Prim.Native.Nat.{ℕ, ◌≤◌}
 use native.Mathlib.Omega.{arith}
 use lib.ListN.{length}
 use Rattle.bases.specs.Letter.{bases_of}
 use Rattle.bases.specs.Reference.{longest_reference}
 use Rattle.bases.proofs.ReferenceLaws.{reference_bases}
 use Rattle.bases.proofs.TestLaws.{of_true}
-use Rattle.fields.specs.Weight.{heaviest}
 use Rattle.clusters.specs.Heads.{Ready, start_heads}
 use Rattle.clusters.specs.Item.{variant}
 use Rattle.marks.specs.Marks.{clusters_of, total_score}
 use Rattle.clusters.specs.Merged.{merged_items}
 use Rattle.clusters.specs.Plan.{plan_of}
-use Rattle.clusters.proofs.CardClusters.{accepted_items, clusters_light, map_length}
+use Rattle.clusters.proofs.CardClusters.{clusters_plain, map_length}
 use Rattle.clusters.proofs.NextLaws.{accepted_ready}
 use Rattle.card.specs.Refusal.{first_refusal, least_room, lists_checks}
 use Rattle.card.proofs.ClusterMarks.{whole_long, entries_most, plan_few}
@@ -30,7 +29,7 @@ pub record Answerable (reference first second : List ℕ) : Type 0 where
   pub short : length reference ≤ longest_reference
   pub entries : length (merged_items first second) ≤ least_room
   pub clusters : length (plan_of reference first second) ≤ least_room
-  pub score : (scheme : ℕ) → total_score scheme reference (clusters_of reference first second) ≤ least_room * heaviest
+  pub score : total_score reference (clusters_of reference first second) ≤ least_room
 
 pub lists_answerable : (reference name first second : List ℕ) (small : Bool) → (first_refusal (lists_checks reference name first second small)).number ≡ 0 → Answerable (bases_of reference) first second
     × (small ≡ false)
@@ -42,9 +41,9 @@ lists_answerable reference name first second small z =
         short = (reference_bases reference (of_true r.0.right)).short;
         entries = omega (arith, map_length (variant (bases_of reference) first second) (merged_items first second), most);
         clusters = plan_few (bases_of reference) name first second r.0.accepted r.1;
-        score = λ scheme. omega (
+        score = omega (
           arith,
-          total_score_lem scheme (bases_of reference) (clusters_of (bases_of reference) first second) (clusters_light (bases_of reference) first second (accepted_items (bases_of reference) name first second r.0.accepted r.1)),
+          total_score_lem (bases_of reference) (clusters_of (bases_of reference) first second) (clusters_plain (bases_of reference) first second),
           whole_long
               (bases_of reference) name first second r.0.accepted r.1,
           most,

@@ -21,7 +21,6 @@ pub record SameEntry (t u : List ℕ) (e d : Entry) : Type 0 where
   pub alts : e.alts ≡ d.alts
   pub copy0 : e.copy0 ≡ d.copy0
   pub copy1 : e.copy1 ≡ d.copy1
-  pub weight : e.weight ≡ d.weight
 
 -- Two lists whose entries, one by one, differ only so.
 abbrev pub SameEntries : List ℕ → List ℕ → Type 0

@@ -1,5 +1,4 @@
--- Demand 3: calls of `mark` and of `mark_all` on one buffer of marks, in any order, with repeats and refused calls between. Request e: it
--- is one for every scheme, "one scheme for all its calls".
+-- Demand 3: calls of `mark` and of `mark_all` on one buffer of marks, in any order, with repeats and refused calls between.
 -- Assumes nothing: these are definitions.
 use Rattle.std.specs.Prelude.{List, [], ◌∷◌, map, ◌≢◌, ◌⊎◌, ◌≡◌, ℕ, ◌+◌, ◌≤◌, ◌<◌, length, get_or, take, drop}
 use Rattle.bases.specs.Letter.{bases_of}
@@ -18,7 +17,6 @@ use Rattle.card.specs.Mark.{mark_refusal, mark_after}
 
 -- What a call is given: its input, and the part of the marks that it is lent, from a byte on and so many.
 pub record Input : Type 0 where
-  pub scheme : ℕ
   pub reference : List ℕ
   pub name : List ℕ
   pub first : List ℕ
@@ -38,13 +36,13 @@ input_of (mark_all i) = i
 
 -- Why the call is refused; four zeros where it is answered.
 abbrev pub refusal_of : Call → Refusal
-refusal_of (mark i k) = mark_refusal i.scheme i.reference i.name i.first i.second i.plan k i.room
-refusal_of (mark_all i) = all_refusal i.scheme i.reference i.name i.first i.second (length i.plan) i.room
+refusal_of (mark i k) = mark_refusal i.reference i.name i.first i.second i.plan k i.room
+refusal_of (mark_all i) = all_refusal i.reference i.name i.first i.second (length i.plan) i.room
 
 -- The part that the call is lent, afterwards.
 abbrev pub part_after : Call → List ℕ → List ℕ
-part_after (mark i k) part = mark_after i.scheme i.reference i.name i.first i.second i.plan k part
-part_after (mark_all i) part = all_bytes i.scheme i.reference i.name i.first i.second i.plan part
+part_after (mark i k) part = mark_after i.reference i.name i.first i.second i.plan k part
+part_after (mark_all i) part = all_bytes i.reference i.name i.first i.second i.plan part
 
 -- The call asks for cluster k: `mark_all` asks for each.
 abbrev pub Asks : ℕ → Call → Type 0
@@ -59,10 +57,9 @@ unfoldable pub after_all : List ℕ → List Call → List ℕ
 after_all marks [] = marks
 after_all marks (c ∷ cs) = after_all (after marks c) cs
 
-module _ (scheme : ℕ) (reference name first second : List ℕ) where
-  -- The call is on these lists under this scheme, and is lent the marks from their first byte on.
+module _ (reference name first second : List ℕ) where
+  -- The call is on these lists, and is lent the marks from their first byte on.
   pub record OnThese (i : Input) : Type 0 where
-    pub scheme_same : i.scheme ≡ scheme
     pub reference_same : i.reference ≡ reference
     pub name_same : i.name ≡ name
     pub first_same : i.first ≡ first
@@ -103,11 +100,10 @@ module _ (reference first second : List ℕ) where
     -- and only those."
     pub only_those : get_or marks e 0 ≡ QUESTION → most < length (cluster_at clusters cluster)
 
-  -- What is so of the marks once each cluster has been answered under a scheme: of every entry of both lists, and of the other bytes, which
-  -- are as before.
-  pub record EntriesMarked (scheme : ℕ) (before marks : List ℕ) : Type 0 where
+  -- What is so of the marks once each cluster has been answered: of every entry of both lists, and of the other bytes, which are as before.
+  pub record EntriesMarked (before marks : List ℕ) : Type 0 where
     pub pair : List Choice
-    pub is_best : BestPair scheme reference (merged_variants reference first second) pair
+    pub is_best : BestPair reference (merged_variants reference first second) pair
     pub entries : (e : ℕ) → e < length (merged_variants reference first second) → EntryMarked pair marks e
     pub others : (e : ℕ) → length (merged_variants reference first second) ≤ e → get_or marks e 0 ≡ get_or before e 0
     pub long : length marks ≡ length before

@@ -1,24 +1,25 @@
--- Document 01's examples 1 to 12 and those of requests c and e, as one table over texts.
+-- Document 01's examples 1 to 12 and those of request c, as one table over texts.
 -- Assumes nothing: these are definitions.
 use Rattle.std.specs.Prelude.{List, [], ◌∷◌, ◌++◌, ℕ, replicate}
-use Prim.Native.String.{String}
+use Prim.Native.Char.{code}
+use Prim.Native.String.{String, [] as empty, ◌∷◌ as begins}
 use Rattle.clusters.specs.declared.plan.Cluster.{Cluster}
-use Rattle.fields.specs.Ascii.{ascii}
 use Rattle.matching.specs.Cut.{join}
-use Rattle.matching.specs.Scheme.{both_lists, list1_only, list2_only}
+
+-- The bytes of a text in ASCII.
+abbrev pub ascii : String → List ℕ
+ascii empty = []
+ascii (begins c s) = code c ∷ ascii s
 
 -- The name that the caller gives.
 abbrev pub chr1 : List ℕ
 chr1 = ascii "chr1"
 
--- A record's line: POS, REF, ALT, INFO and the genotype; and with nothing in INFO.
-abbrev pub line_with : String → String → String → String → String → List ℕ
-line_with pos ref alt info genotype =
-    ascii "chr1\t" ++ ascii pos ++ ascii "\t.\t" ++ ascii ref ++ ascii "\t" ++ ascii alt
-    ++ ascii "\t.\t.\t" ++ ascii info ++ ascii "\tGT\t" ++ ascii genotype ++ ascii "\n"
-
+-- A record's line: POS, REF, ALT and the genotype.
 abbrev pub line : String → String → String → String → List ℕ
-line pos ref alt genotype = line_with pos ref alt "." genotype
+line pos ref alt genotype =
+    ascii "chr1\t" ++ ascii pos ++ ascii "\t.\t" ++ ascii ref ++ ascii "\t" ++ ascii alt
+    ++ ascii "\t.\t.\t.\tGT\t" ++ ascii genotype ++ ascii "\n"
 
 -- Homozygous for its one ALT.
 abbrev pub hom : String → String → String → List ℕ
@@ -32,15 +33,11 @@ text ls = ascii "##fileformat=VCFv4.2\n#CHROM\tPOS\tID\tREF\tALT\tQUAL\tFILTER\t
 abbrev pub cluster : ℕ → ℕ → Cluster
 cluster first count = record { first = first; count = count }
 
--- What an example says on a reference: of a list its normal text; or of two lists, under a scheme, their plan, their marks and the score,
--- which is summed over decided clusters.
+-- What an example says on a reference: of a list its normal text; or of two lists their plan, their marks and the score, which is summed
+-- over decided clusters.
 pub data Example : Type 0 where
   normal : String → List ℕ → List ℕ → Example
-  schemed : ℕ → String → List ℕ → List ℕ → List Cluster → String → ℕ → Example
-
--- Both lists are counted.
-abbrev pub marks : String → List ℕ → List ℕ → List Cluster → String → ℕ → Example
-marks = schemed both_lists
+  marks : String → List ℕ → List ℕ → List Cluster → String → ℕ → Example
 
 -- The record of examples 10 and 12; the same, heterozygous.
 abbrev pub snp : List ℕ
@@ -48,11 +45,6 @@ snp = hom "2" "A" "C"
 
 abbrev pub het : List ℕ
 het = line "2" "A" "C" "0/1"
-
--- Two SNVs at one place in each list, of which the second of list 1 weighs 5.
-abbrev pub two_snvs : ℕ → String → ℕ → Example
-two_snvs scheme =
-    schemed scheme "GAC" (text (snp ∷ line_with "2" "A" "T" "CW=5" "1/1" ∷ [])) (text (snp ∷ hom "2" "A" "T" ∷ [])) (cluster 0 4 ∷ [])
 
 abbrev pub table : List Example
 table =
@@ -88,11 +80,4 @@ table =
     -- c: two het duplicates, against one homozygous entry, and against one het entry: on one copy only one of them may be chosen
     ∷ marks "GAC" (text (het ∷ het ∷ [])) (text (snp ∷ [])) (cluster 0 3 ∷ []) "+-+" 3
     ∷ marks "GAC" (text (het ∷ het ∷ [])) (text (het ∷ [])) (cluster 0 3 ∷ []) "+0+" 2
-    -- e: the best pair by weight, and by scheme
-    ∷ two_snvs both_lists "0+0+" 6
-    ∷ two_snvs list1_only "0+0+" 5
-    ∷ two_snvs list2_only "+0+0" 1
-    -- e: an entry of weight 0 is still chosen where that comes first
-    ∷ marks "GAC" (text (line_with "2" "A" "C" "DP=9;CW=0" "1/1" ∷ [])) (text (line_with "2" "A" "C" "CW=0" "1/1" ∷ []))
-    (cluster 0 2 ∷ []) "++" 0
     ∷ []

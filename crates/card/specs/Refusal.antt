@@ -1,11 +1,10 @@
 -- What is turned away: the four numbers of a refusal, and the first of a call's refusals in document 01's order: 1; 2; list 1; list 2; 17;
--- 16; 18, with request e's 32 before 1.
+-- 16; 18.
 -- Assumes nothing: these are definitions.
 use Rattle.std.specs.Prelude.{Bool, not, List, [], ◌∷◌, ◌++◌, ℕ, eqb}
 use Rattle.bases.specs.Letter.{bases_of}
 use Rattle.bases.specs.First.{Test, test, first_told}
 use Rattle.bases.specs.Reference.{is_reference?}
-use Rattle.matching.specs.Scheme.{scheme?}
 use Rattle.vcf.specs.declared.list.Fault.{Fault}
 use Rattle.vcf.specs.List.{judge_text}
 use Rattle.card.specs.declared.refusal.Refusal.{Refusal}
@@ -37,7 +36,7 @@ reference_check reference = check (not (is_reference? reference)) (refusal 1 0 0
 abbrev pub fault_in : ℕ → Fault → Refusal
 fault_in j f = refusal f.number j f.line f.place
 
--- The rows of list j, 3 to 9, 11 to 15 and 20 to 24: the first fault of its text.
+-- The rows of list j, 3 to 9, 11 to 15 and 20 to 23: the first fault of its text.
 abbrev pub list_check : ℕ → List ℕ → List ℕ → List ℕ → Check
 list_check j reference name text =
     check (not (eqb (judge_text (bases_of reference) name text).number 0)) (fault_in j (judge_text (bases_of reference) name text))
@@ -53,8 +52,3 @@ list_checks reference name first small = reference_check reference ∷ check sma
 -- The rows of a call with two: the same, then list 2.
 abbrev pub lists_checks : List ℕ → List ℕ → List ℕ → List ℕ → Bool → List Check
 lists_checks reference name first second small = list_checks reference name first small ++ (list_check 2 reference name second ∷ [])
-
--- The rows of a call that marks: 32, where the number is no scheme's; then those of a call with two lists.
-abbrev pub marks_checks : ℕ → List ℕ → List ℕ → List ℕ → List ℕ → Bool → List Check
-marks_checks scheme reference name first second small =
-    check (not (scheme? scheme)) (refusal 32 0 0 0) ∷ lists_checks reference name first second small

@@ -1,14 +1,12 @@
 // The call `mark_all`: plans two lists and marks every cluster.
 ghost use Rattle.std.specs.Prelude.{◌≡◌, length};
-ghost use Rattle.matching.specs.Scheme.{both_lists};
 ghost use Rattle.card.specs.All.{all_marked, all_answered, empty_plan, all_plan, all_bytes};
 ghost use Rattle.card.specs.Refusal.{least_room};
 
 use crate::answer::Answer;
-use crate::lists::{LEAST, is_small, marks_refused};
+use crate::lists::{LEAST, is_small, lists_refused};
 use clusters::plan::{Cluster, fill_plan};
 use marks::mark::mark_every;
-use matching::scheme::BOTH_LISTS;
 
 // What is answered: the four numbers of a refusal, or zeros; the number of clusters; and the score summed over the decided ones.
 #[repr(C)]
@@ -36,10 +34,9 @@ fn all_marked(answer: Answer, clusters: u32, score: u32) -> AllMarked
     }
 }
 
-// Plans two lists and marks every cluster under a scheme: leaves what `plan` and then `mark` of each cluster leave. `plan` and `marks` have
-// to have room for 1,024. Rows: 32; 1; 2; list 1; list 2.
+// Plans two lists and marks every cluster: leaves what `plan` and then `mark` of each cluster leave. `plan` and `marks` have to have room
+// for 1,024. Rows: 1; 2; list 1; list 2.
 pub fn mark_all(
-    scheme: u32,
     reference: &[u8],
     name: &[u8],
     first: &[u8],
@@ -47,21 +44,21 @@ pub fn mark_all(
     plan: &mut [Cluster],
     marks: &mut [u8],
 ) -> AllMarked
-    ensures { (result ≡ all_answered scheme reference.now name.now first.now second.now
+    ensures { (result ≡ all_answered reference.now name.now first.now second.now
         (length plan.old) (length marks.old))
-        × (plan.new ≡ all_plan scheme reference.now name.now first.now second.now
+        × (plan.new ≡ all_plan reference.now name.now first.now second.now
         plan.old marks.old)
         × (marks.new
-        ≡ all_bytes scheme reference.now name.now first.now second.now plan.old
+        ≡ all_bytes reference.now name.now first.now second.now plan.old
         marks.old) }
 {
     let small = is_small(plan.len(), marks.len());
-    let refused = marks_refused(scheme, reference, name, first, second, small);
+    let refused = lists_refused(reference, name, first, second, small);
     if refused.number != 0 {
         return all_marked(refused, 0, 0);
     }
     let clusters = fill_plan(reference, first, second, plan);
-    let score = mark_every(scheme, reference, first, second, marks);
+    let score = mark_every(reference, first, second, marks);
     all_marked(refused, clusters as u32, score as u32)
 }
 
@@ -72,7 +69,7 @@ pub struct MarkedLists {
     pub plan: [Cluster; LEAST],
 }
 
-// The same for programs: `mark_all` by the weights of both lists, on a plan of its own, which is returned.
+// The same for programs: `mark_all` on a plan of its own, which is returned.
 pub fn marked_lists(
     reference: &[u8],
     name: &[u8],
@@ -80,15 +77,15 @@ pub fn marked_lists(
     second: &[u8],
     marks: &mut [u8],
 ) -> MarkedLists
-    ensures { (result.answer ≡ all_answered both_lists reference.now name.now first.now second.now least_room
+    ensures { (result.answer ≡ all_answered reference.now name.now first.now second.now least_room
         (length marks.old))
-        × (result.plan ≡ all_plan both_lists reference.now name.now first.now second.now empty_plan
+        × (result.plan ≡ all_plan reference.now name.now first.now second.now empty_plan
         marks.old)
         × (marks.new
-        ≡ all_bytes both_lists reference.now name.now first.now second.now empty_plan
+        ≡ all_bytes reference.now name.now first.now second.now empty_plan
         marks.old) }
 {
     let mut plan = [Cluster { first: 0, count: 0 }; LEAST];
-    let answer = mark_all(BOTH_LISTS, reference, name, first, second, &mut plan, marks);
+    let answer = mark_all(reference, name, first, second, &mut plan, marks);
     MarkedLists { answer, plan }
 }

@@ -3,11 +3,10 @@
 ghost use Rattle.std.specs.Prelude.{◌≡◌};
 ghost use Rattle.card.specs.Answer.{refused_answer};
 ghost use Rattle.card.specs.Mark.{small_room?};
-ghost use Rattle.card.specs.Refusal.{first_refusal, list_checks, lists_checks, marks_checks};
+ghost use Rattle.card.specs.Refusal.{first_refusal, list_checks, lists_checks};
 
 use crate::answer::{Answer, refuse};
 use bases::reference::is_reference;
-use matching::scheme::is_scheme;
 use vcf::list::judge;
 
 // The rows of a call with one list: 1; 2, where lent room is too small; list 1.
@@ -47,24 +46,6 @@ pub fn lists_refused(
         return refuse(0, 0, 0, 0);
     }
     refuse(fault.number, 2, fault.line as u32, fault.place as u32)
-}
-
-// The rows of a call that marks: 32, where the number is no scheme's; then those of a call with two lists.
-pub fn marks_refused(
-    scheme: u32,
-    reference: &[u8],
-    name: &[u8],
-    first: &[u8],
-    second: &[u8],
-    small: bool,
-) -> Answer
-    ensures { result ≡ refused_answer (first_refusal
-        (marks_checks scheme reference.now name.now first.now second.now small)) }
-{
-    if !is_scheme(scheme) {
-        return refuse(32, 0, 0, 0);
-    }
-    lists_refused(reference, name, first, second, small)
 }
 
 // The least room that is lent for a plan, in clusters, for entries, and for marks, in bytes.

@@ -9,17 +9,15 @@ ghost use Rattle.clusters.specs.Merged.{merged_items};
 ghost use Rattle.card.specs.Mark.{marked, answer_asked, mark_after};
 
 use crate::answer::{Answer, give, refuse};
-use crate::lists::{is_small, marks_refused};
+use crate::lists::{is_small, lists_refused};
 use clusters::plan::{Cluster, is_plan};
 use marks::mark::mark_one;
 
 // The value that says that a cluster is undecided.
 pub const UNDECIDED: u32 = 4_294_967_295;
 
-// Marks one cluster of two accepted lists under a scheme, where the plan given is theirs. Rows: 17; 16. Value: the cluster's score, or
-// UNDECIDED.
+// Marks one cluster of two accepted lists, where the plan given is theirs. Rows: 17; 16. Value: the cluster's score, or UNDECIDED.
 fn mark_planned(
-    scheme: u32,
     reference: &[u8],
     first: &[u8],
     second: &[u8],
@@ -31,17 +29,17 @@ fn mark_planned(
         × (length (bases_of reference.now) ≤ longest_reference)
         × (length (merged_items first.now second.now) ≤ length marks.old) }
     ensures { (result ≡ answer_asked same
-        (asked_for scheme (bases_of reference.now)
+        (asked_for (bases_of reference.now)
         (clusters_of (bases_of reference.now) first.now second.now) cluster))
         × (marks.new
-        ≡ pick same (marks_after scheme (bases_of reference.now)
+        ≡ pick same (marks_after (bases_of reference.now)
         (clusters_of (bases_of reference.now) first.now second.now) cluster marks.old)
         marks.old) }
 {
     if !same {
         return refuse(17, 0, 0, 0);
     }
-    let told = mark_one(scheme, reference, first, second, cluster, marks);
+    let told = mark_one(reference, first, second, cluster, marks);
     if !told.found {
         return refuse(16, 0, 0, 0);
     }
@@ -51,11 +49,10 @@ fn mark_planned(
     give(told.score as u32)
 }
 
-// Marks the entries of one cluster: `+`, `-` or `0` as the best pair over the two whole lists has it under the scheme, or `?` where the
-// cluster is undecided. `marks` has to have room for 1,024. Rows: 32; 1; 2; list 1; list 2; 17; 16. Value: the cluster's score, or
-// UNDECIDED. No other mark changes.
+// Marks the entries of one cluster: `+`, `-` or `0` as the best pair over the two whole lists has it, or `?` where the cluster is
+// undecided. `marks` has to have room for 1,024. Rows: 1; 2; list 1; list 2; 17; 16. Value: the cluster's score, or UNDECIDED. No other
+// mark changes.
 pub fn mark(
-    scheme: u32,
     reference: &[u8],
     name: &[u8],
     first: &[u8],
@@ -64,17 +61,17 @@ pub fn mark(
     cluster: usize,
     marks: &mut [u8],
 ) -> Answer
-    ensures { (result ≡ marked scheme reference.now name.now first.now second.now plan.now
-        cluster (length marks.old))
+    ensures { (result ≡ marked reference.now name.now first.now second.now plan.now cluster
+        (length marks.old))
         × (marks.new
-        ≡ mark_after scheme reference.now name.now first.now second.now plan.now
-        cluster marks.old) }
+        ≡ mark_after reference.now name.now first.now second.now plan.now cluster
+        marks.old) }
 {
     let small = is_small(plan.len(), marks.len());
-    let refused = marks_refused(scheme, reference, name, first, second, small);
+    let refused = lists_refused(reference, name, first, second, small);
     if refused.number != 0 {
         return refused;
     }
     let same = is_plan(reference, first, second, plan);
-    mark_planned(scheme, reference, first, second, same, cluster, marks)
+    mark_planned(reference, first, second, same, cluster, marks)
 }

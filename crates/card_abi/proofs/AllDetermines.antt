@@ -13,5 +13,5 @@ pub card_mark_all_states : States card-mark-all.ended (λ M 𝓤 𝓛. card-mark
 card_mark_all_states M 𝓤 𝓛 mem run κs a g z e = refl
 
 pub card_mark_all_determines : (κs : Lfts 6) (a : Args card-mark-all.signature κs) (z z' : Res card-mark-all.signature κs) (e e' : AtExit card-mark-all.ended κs)
-    → MarkedAll κs a z e → MarkedAll κs a z' e' → (z ≡ z') × (e.1.1.1.1.1.0.now ≡ e'.1.1.1.1.1.0.now) × (e.1.1.1.1.1.1.0.now ≡ e'.1.1.1.1.1.1.0.now)
+    → MarkedAll κs a z e → MarkedAll κs a z' e' → (z ≡ z') × (e.1.1.1.1.0.now ≡ e'.1.1.1.1.0.now) × (e.1.1.1.1.1.0.now ≡ e'.1.1.1.1.1.0.now)
 card_mark_all_determines = mark_all_determines

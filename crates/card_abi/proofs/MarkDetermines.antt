@@ -13,5 +13,5 @@ pub card_mark_states : States card-mark.ended (λ M 𝓤 𝓛. card-mark.clauses
 card_mark_states M 𝓤 𝓛 mem run κs a g z e = refl
 
 pub card_mark_determines : (κs : Lfts 6) (a : Args card-mark.signature κs) (z z' : Res card-mark.signature κs) (e e' : AtExit card-mark.ended κs)
-    → Marked κs a z e → Marked κs a z' e' → (z ≡ z') × (e.1.1.1.1.1.1.1.0.now ≡ e'.1.1.1.1.1.1.1.0.now)
+    → Marked κs a z e → Marked κs a z' e' → (z ≡ z') × (e.1.1.1.1.1.1.0.now ≡ e'.1.1.1.1.1.1.0.now)
 card_mark_determines = mark_determines

@@ -4,7 +4,7 @@ use Rattle.std.specs.Prelude.{ℕ, ◌+◌, ◌*◌}
 
 -- The major part is raised whenever a call or a struct changes for its callers,
 abbrev pub major : ℕ
-major = 4
+major = 3
 
 -- the minor part whenever something is added.
 abbrev pub minor : ℕ

@@ -5,11 +5,10 @@ ghost use Rattle.card.specs.All.{all_answered, all_plan, all_bytes};
 use card::all::{AllMarked, mark_all};
 use clusters::plan::Cluster;
 
-// Plans two lists and marks every cluster under a scheme: leaves what `card_plan` and then `card_mark` of each cluster leave. Answered:
-// number 0, the number of clusters, and the score summed over the decided ones.
+// Plans two lists and marks every cluster: leaves what `card_plan` and then `card_mark` of each cluster leave. Answered: number 0, the
+// number of clusters, and the score summed over the decided ones.
 #[unsafe(no_mangle)]
 pub extern "C" fn card_mark_all(
-    scheme: u32,
     reference: &[u8],
     name: &[u8],
     first: &[u8],
@@ -17,13 +16,13 @@ pub extern "C" fn card_mark_all(
     plan: &mut [Cluster],
     marks: &mut [u8],
 ) -> AllMarked
-    ensures { (result ≡ all_answered scheme reference.now name.now first.now second.now
+    ensures { (result ≡ all_answered reference.now name.now first.now second.now
         (length plan.old) (length marks.old))
-        × (plan.new ≡ all_plan scheme reference.now name.now first.now second.now
+        × (plan.new ≡ all_plan reference.now name.now first.now second.now
         plan.old marks.old)
         × (marks.new
-        ≡ all_bytes scheme reference.now name.now first.now second.now plan.old
+        ≡ all_bytes reference.now name.now first.now second.now plan.old
         marks.old) }
 {
-    mark_all(scheme, reference, name, first, second, plan, marks)
+    mark_all(reference, name, first, second, plan, marks)
 }

@@ -3,7 +3,7 @@ ghost use Rattle.std.specs.Prelude.{◌≡◌};
 ghost use Rattle.card_abi.specs.Version.{card_version};
 
 // The major part, raised whenever a call or a struct changes for its callers.
-const MAJOR: u32 = 4;
+const MAJOR: u32 = 3;
 
 // The minor part, raised whenever something is added.
 const MINOR: u32 = 0;

@@ -119,7 +119,6 @@ module _ (reference t : List ℕ) (a : ℕ) (inside : a < length t) (line : Reco
         some1 = (allele_sized (copy1 (genotype_on r)) c.1).0;
         short0 = (allele_sized (copy0 (genotype_on r)) c.0).1;
         short1 = (allele_sized (copy1 (genotype_on r)) c.1).1;
-        light = line.weight;
       }
 
 module _ (reference name t : List ℕ) where

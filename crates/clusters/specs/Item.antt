@@ -8,7 +8,6 @@ use Rattle.bases.specs.Stretch.{stretch}
 use Rattle.donors.specs.Choice.{Variant}
 use Rattle.vcf.specs.declared.entry.Entry.{Entry}
 use Rattle.fields.specs.Allele.{longest_allele}
-use Rattle.fields.specs.Weight.{heaviest}
 use Rattle.vcf.specs.Entry.{bytes_of}
 use Rattle.clusters.specs.declared.gap.Size.{Size}
 use Rattle.clusters.specs.declared.item.Item.{Item}
@@ -39,7 +38,7 @@ variant_of reference text side e = record {
   side = side;
   start = (start_of e).0;
   len = e.reference.len;
-  weight = e.weight;
+  weight = 1;
   room0 = takes_room? e.copy0;
   allele0 = allele_of reference text e e.copy0;
   room1 = takes_room? e.copy1;
@@ -50,10 +49,6 @@ variant_of reference text side e = record {
 pub record ByBases (reference : List ℕ) (x : Variant) : Type 0 where
   pub zero : T x.room0 ↔ (x.allele0 ≢ stretch reference x.start x.len)
   pub one : T x.room1 ↔ (x.allele1 ≢ stretch reference x.start x.len)
-
--- An entry's weight is one that it may have.
-abbrev pub Light : Variant → Type 0
-Light x = x.weight ≤ heaviest
 
 -- The text of the list.
 abbrev pub text_of : Bool → List ℕ → List ℕ → List ℕ
@@ -81,8 +76,7 @@ item_size i =
     }
 
 -- What is so of each entry of an accepted list, as far as a walk leans on it: there is a POS, REF is not empty and lies inside the
--- reference, the numbers say how long the copies' alleles are, none of which is empty or longer than an allele may be, and its weight is
--- one that an entry may have.
+-- reference, and the numbers say how long the copies' alleles are, none of which is empty or longer than an allele may be.
 pub record Sound (reference text : List ℕ) (e : Entry) : Type 0 where
   pub pos : 1 ≤ e.pos.0
   pub some : 1 ≤ e.reference.len
@@ -94,4 +88,3 @@ pub record Sound (reference text : List ℕ) (e : Entry) : Type 0 where
   pub some1 : 1 ≤ len_of e e.copy1
   pub short0 : len_of e e.copy0 ≤ longest_allele
   pub short1 : len_of e e.copy1 ≤ longest_allele
-  pub light : e.weight ≤ heaviest

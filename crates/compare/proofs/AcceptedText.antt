@@ -6,7 +6,6 @@ use mathlib.Core.Path.{◌≡◌}
 use Prim.Native.Nat.{ℕ, ◌≤◌}
 use native.Mathlib.Omega.{arith}
 use lib.ListN.{length, take}
-use Rattle.matching.specs.Scheme.{both_lists}
 use Rattle.card.proofs.ReadyLaws.{Answerable}
 use Rattle.clusters.specs.declared.plan.Cluster.{Cluster}
 use Rattle.clusters.specs.Heads.{start_heads}
@@ -21,7 +20,7 @@ use Rattle.compare.specs.Printed.{text_most}
 module _ (reference first second : List ℕ) where
   pub accepted_makes : Answerable reference first second → (plan : List Cluster) (clusters : ℕ) (marks : List ℕ) (score room : ℕ)
       → clusters ≡ length (plan_of reference first second) → take clusters plan ≡ plan_of reference first second → length (merged_items first second) ≤ length marks
-      → score ≡ total_score both_lists reference (clusters_of reference first second) → text_most ≤ room → Makes first second plan clusters marks score room
+      → score ≡ total_score reference (clusters_of reference first second) → text_most ≤ room → Makes first second plan clusters marks score room
   accepted_makes a plan clusters marks score room n p m s r =
       record {
         readable = ready_readable reference first second (start_heads first second) a.ready;
@@ -29,6 +28,6 @@ module _ (reference first second : List ℕ) where
         numbered = rw p (numbers_all reference first second);
         few_entries = a.entries;
         marked = m;
-        printable = omega (arith, s, a.score both_lists);
+        printable = omega (arith, s, a.score);
         fits = r;
       }

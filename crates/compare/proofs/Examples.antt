@@ -22,14 +22,13 @@ use Rattle.matching.specs.BestOf.{every?, allowed?, best_of}
 use Rattle.matching.specs.Cut.{join}
 use Rattle.matching.specs.Search.{first?, better, best_over, search}
 use Rattle.written.specs.Written.{digits_of}
-use Rattle.fields.specs.Bytes.{until, pieces}
+use Rattle.fields.specs.Bytes.{until}
 use Rattle.vcf.specs.Entry.{header_bytes, entries_from}
 use Rattle.fields.specs.Field.{skip, full?}
 use Rattle.fields.specs.Genotype.{copies_wrong?}
 use Rattle.fields.specs.Header.{header_wrong?}
-use Rattle.vcf.specs.List.{judge_lines, judge_text}
+use Rattle.vcf.specs.List.{lines_of, judge_lines, judge_text}
 use Rattle.fields.specs.Pos.{all_digits?, value_from, is_pos?}
-use Rattle.fields.specs.Weight.{weight_texts}
 use Rattle.listed.specs.Listed.{numbers_from}
 use Rattle.compare.specs.Printed.{entry_lines}
 
@@ -64,14 +63,14 @@ printed =
     108 ∷ 9 ∷ 50 ∷ 9 ∷ 48 ∷ 9 ∷ 48 ∷ 9 ∷ 50 ∷ 10 ∷ []
 
 pub example_1 : compared_text reference chrom_name first second ≡ printed
-unfolding letter_among letter_of all_letters? any_period? agree? all_digits? value_from is_pos? copies_wrong? skip full? pieces weight_texts judge_lines judge_text until header_wrong? first_told header_bytes entries_from
+unfolding letter_among letter_of all_letters? any_period? agree? all_digits? value_from is_pos? copies_wrong? skip full? lines_of judge_lines judge_text until header_wrong? first_told header_bytes entries_from
     digits_of chain? edits donor_from over first? better best_over search score join every? allowed? best_of total_score weave merged rest plan records_from how_many own_marks numbers_from
     entry_lines compared_text
 example_1 = refl
 
 -- refused 1 0 0 0
 pub example_empty : compared_text [] chrom_name [] [] ≡ 114 ∷ 101 ∷ 102 ∷ 117 ∷ 115 ∷ 101 ∷ 100 ∷ 9 ∷ 49 ∷ 9 ∷ 48 ∷ 9 ∷ 48 ∷ 9 ∷ 48 ∷ 10 ∷ []
-unfolding letter_among letter_of all_letters? any_period? agree? all_digits? value_from is_pos? copies_wrong? skip full? pieces weight_texts judge_lines judge_text until header_wrong? first_told header_bytes entries_from
+unfolding letter_among letter_of all_letters? any_period? agree? all_digits? value_from is_pos? copies_wrong? skip full? lines_of judge_lines judge_text until header_wrong? first_told header_bytes entries_from
     digits_of chain? edits donor_from over first? better best_over search score join every? allowed? best_of total_score weave merged rest plan records_from how_many own_marks numbers_from
     entry_lines compared_text
 example_empty = refl

@@ -9,7 +9,6 @@ use mathlib.Core.Path.{◌≡◌, sym, ap, ◌∙◌}
 use Prim.Native.Nat.{ℕ, ◌+◌, ◌≤◌}
 use native.Mathlib.Omega.{arith}
 use lib.ListN.{length, take, drop}
-use Rattle.matching.specs.Scheme.{both_lists}
 use Rattle.bases.specs.Letter.{bases_of}
 use Rattle.card.specs.declared.all.AllMarked.{AllMarked}
 use Rattle.card.specs.Refusal.{least_room}
@@ -54,7 +53,7 @@ module _ (file name first second : List ℕ) (answer : AllMarked) (plan : List C
     clusters_are : answer.clusters ≡ length (plan_of (bases_of r) first second)
     clusters_are = ap (λ (a : AllMarked). a.clusters) answered ∙ files_clusters file name first second before long z
 
-    score_is : answer.score ≡ total_score both_lists (bases_of r) (clusters_of (bases_of r) first second)
+    score_is : answer.score ≡ total_score (bases_of r) (clusters_of (bases_of r) first second)
     score_is = ap (λ (a : AllMarked). a.score) answered ∙ files_score file name first second before long z
 
     taken : take answer.clusters plan ≡ plan_of (bases_of r) first second
@@ -68,7 +67,7 @@ module _ (file name first second : List ℕ) (answer : AllMarked) (plan : List C
     pub text_accepted : printed_text (take answer.clusters plan) (merged_items first second) marks answer.score ≡ compared_text file name first second
     unfolding compared_text
     text_accepted =
-        accepted_text_lem (bases_of r) name first second accept.0 accept.1 (take answer.clusters plan) marks (drop (0 + length (all_marks both_lists (bases_of r) (clusters_of (bases_of r) first second))) before)
+        accepted_text_lem (bases_of r) name first second accept.0 accept.1 (take answer.clusters plan) marks (drop (0 + length (all_marks (bases_of r) (clusters_of (bases_of r) first second))) before)
         answer.score
         taken (wrote ∙ files_marks_lem file name first second before long z) score_is
         ∙ sym (numbers_text answer.number answer.list answer.line answer.place (refusal_of file name first second) tells (accepted_text (bases_of r) first second) zero)

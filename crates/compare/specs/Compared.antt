@@ -2,7 +2,6 @@
 -- Document 01: a file that can't be read counts as empty; a reference file that does not end in LF is refused with 1.
 -- Assumes nothing: these are definitions.
 use Rattle.std.specs.Prelude.{List, ℕ}
-use Rattle.matching.specs.Scheme.{both_lists}
 use Rattle.bases.specs.Letter.{bases_of}
 use Rattle.marks.specs.Marks.{clusters_of, all_marks, total_score}
 use Rattle.clusters.specs.Merged.{merged_items}
@@ -18,8 +17,7 @@ use Rattle.compare.specs.Printed.{printed_text}
 abbrev pub accepted_text : List ℕ → List ℕ → List ℕ → List ℕ
 accepted_text reference first second =
     let cs = clusters_of reference first second in
-    printed_text (plan_of reference first second) (merged_items first second)
-    (all_marks both_lists reference cs) (total_score both_lists reference cs)
+    printed_text (plan_of reference first second) (merged_items first second) (all_marks reference cs) (total_score reference cs)
 
 unfoldable pub compared_text : List ℕ → List ℕ → List ℕ → List ℕ → List ℕ
 compared_text file name first second = told_text (refusal_of file name first second) (accepted_text (bases_of (reference_in file)) first second)

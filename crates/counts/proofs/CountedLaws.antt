@@ -12,7 +12,6 @@ use Prim.Native.Nat.{ℕ, ◌+◌, ◌≤◌}
 use native.Mathlib.Omega.{arith}
 use lib.Dec.{ltb}
 use lib.ListN.{length, drop}
-use Rattle.matching.specs.Scheme.{both_lists}
 use Rattle.bases.specs.Letter.{bases_of}
 use Rattle.card.specs.declared.all.AllMarked.{AllMarked}
 use Rattle.card.specs.declared.refusal.Refusal.{Refusal}
@@ -24,7 +23,7 @@ use Rattle.card.specs.Refusal.{least_room, lists_checks}
 use Rattle.card.proofs.AllLaws.{all_given}
 use Rattle.card.proofs.ClusterMarks.{marks_all}
 use Rattle.card.proofs.CountLaws.{count_given, count_marked}
-use Rattle.card.proofs.ListsLaws.{lists_numbered, lists_read, marks_read}
+use Rattle.card.proofs.ListsLaws.{lists_numbered, lists_read}
 use Rattle.card.proofs.RefusalLaws.{first_none, none_holds}
 use Rattle.clusters.specs.declared.plan.Cluster.{Cluster}
 use Rattle.marks.specs.declared.count.Counts.{Counts}
@@ -71,29 +70,28 @@ module _ (file name first second : List ℕ) (answer : AllMarked) (before marks 
     pub text_accepted : (c : Counts) → c ≡ counts_of (merged_items first second) marks → counts_line c ≡ counted_text file name first second
     unfolding counted_text
     text_accepted c e =
-        let own = all_marks both_lists (bases_of r) (clusters_of (bases_of r) first second) in
+        let own = all_marks (bases_of r) (clusters_of (bases_of r) first second) in
         let accept = accepted_files file name first second z in
-        let same = counts_marks (merged_items first second) own (drop (0 + length own) before) (omega (arith, marks_all both_lists (bases_of r) name first second accept.0 accept.1)) in
+        let same = counts_marks (merged_items first second) own (drop (0 + length own) before) (omega (arith, marks_all (bases_of r) name first second accept.0 accept.1)) in
         ap counts_line (e ∙ ap (counts_of (merged_items first second)) (wrote ∙ files_marks_lem file name first second before long z) ∙ same)
         ∙ sym (numbers_text answer.number answer.list answer.line answer.place (refusal_of file name first second) tells (counts_line (counts_for (bases_of r) first second)) zero)
 
-module _ (reference name first second : List ℕ) (plan : List Cluster) (marks : List ℕ) (z : (all_refusal both_lists reference name first second (length plan) (length marks)).number ≡ 0) where
+module _ (reference name first second : List ℕ) (plan : List Cluster) (marks : List ℕ) (z : (all_refusal reference name first second (length plan) (length marks)).number ≡ 0) where
   -- the marks of all clusters, and the bytes that hold them
   abbrev these : List ℕ
-  these = all_marks both_lists (bases_of reference) (clusters_of (bases_of reference) first second)
+  these = all_marks (bases_of reference) (clusters_of (bases_of reference) first second)
 
   abbrev bytes : List ℕ
-  bytes = all_bytes both_lists reference name first second plan marks
+  bytes = all_bytes reference name first second plan marks
 
-  pub counted_call : counted reference name first second (all_bytes both_lists reference name first second plan marks) ≡ counted_of (answer 0 0 0 0 0) (counts_for (bases_of reference) first second)
+  pub counted_call : counted reference name first second (all_bytes reference name first second plan marks) ≡ counted_of (answer 0 0 0 0 0) (counts_for (bases_of reference) first second)
   counted_call =
-      let zero = (count_marked both_lists reference name first second plan marks z).0 in
+      let zero = (count_marked reference name first second plan marks z).0 in
       let small = ltb (length bytes) least_room in
       let none = first_none (lists_checks reference name first second small) (none_holds (lists_checks reference name first second small) (lists_numbered reference name first small second) zero) in
-      let room = small_room? (length plan) (length marks) in
-      let read = lists_read reference name first room second (marks_read both_lists reference name first room second z).1 in
+      let read = lists_read reference name first (small_room? (length plan) (length marks)) second z in
       count_given reference name first second bytes zero
       ∙ ap (λ (r : Refusal). counted_of (refused_answer r) (counts_of (merged_items first second) bytes)) none
-      ∙ ap (λ (ms : List ℕ). counted_of (answer 0 0 0 0 0) (counts_of (merged_items first second) ms)) (all_given both_lists reference name first second plan marks z).2
+      ∙ ap (λ (ms : List ℕ). counted_of (answer 0 0 0 0 0) (counts_of (merged_items first second) ms)) (all_given reference name first second plan marks z).2
       ∙ ap (counted_of (answer 0 0 0 0 0))
-      (counts_marks (merged_items first second) these (drop (0 + length these) marks) (omega (arith, marks_all both_lists (bases_of reference) name first second read.0.accepted read.1)))
+      (counts_marks (merged_items first second) these (drop (0 + length these) marks) (omega (arith, marks_all (bases_of reference) name first second read.0.accepted read.1)))

@@ -10,8 +10,7 @@ use Rattle.bases.specs.First.{first_told}
 use Rattle.bases.specs.Letter.{letter_among, letter_of, all_letters?}
 use Rattle.bases.specs.Period.{any_period?}
 use Rattle.bases.specs.Same.{agree?}
-use Rattle.fields.specs.Ascii.{ascii}
-use Rattle.card.specs.Examples.{text, hom, snp}
+use Rattle.card.specs.Examples.{ascii, text, hom, snp}
 use Rattle.marks.specs.Counts.{how_many, own_marks}
 use Rattle.clusters.specs.Merged.{weave, merged}
 use Rattle.clusters.specs.Plan.{rest, plan, records_from}
@@ -25,14 +24,13 @@ use Rattle.matching.specs.BestOf.{every?, allowed?, best_of}
 use Rattle.matching.specs.Cut.{join}
 use Rattle.matching.specs.Search.{first?, better, best_over, search}
 use Rattle.written.specs.Written.{digits_of}
-use Rattle.fields.specs.Bytes.{until, pieces}
+use Rattle.fields.specs.Bytes.{until}
 use Rattle.vcf.specs.Entry.{header_bytes, entries_from}
 use Rattle.fields.specs.Field.{skip, full?}
 use Rattle.fields.specs.Genotype.{copies_wrong?}
 use Rattle.fields.specs.Header.{header_wrong?}
-use Rattle.vcf.specs.List.{judge_lines, judge_text}
+use Rattle.vcf.specs.List.{lines_of, judge_lines, judge_text}
 use Rattle.fields.specs.Pos.{all_digits?, value_from, is_pos?}
-use Rattle.fields.specs.Weight.{weight_texts}
 use Rattle.counts.specs.Counted.{counted_text}
 
 -- What is printed for three files, and what it should be.
@@ -44,6 +42,6 @@ pub examples :
     × Prints "GAC\n" (text (replicate 7 snp)) (text (replicate 6 snp)) "0\t0\t7\t0\t0\t6\n"
     × Prints "" [] [] "refused\t1\t0\t0\t0\n"
     × Prints "TGCCGT\n" (text (hom "2" "G" "C,C" ∷ [])) [] "refused\t23\t1\t3\t13\n"
-unfolding letter_among letter_of all_letters? any_period? agree? all_digits? value_from is_pos? copies_wrong? skip full? pieces weight_texts judge_lines judge_text until header_wrong? first_told header_bytes entries_from
+unfolding letter_among letter_of all_letters? any_period? agree? all_digits? value_from is_pos? copies_wrong? skip full? lines_of judge_lines judge_text until header_wrong? first_told header_bytes entries_from
     digits_of chain? edits donor_from over first? better best_over search score join every? allowed? best_of weave merged rest plan records_from how_many own_marks counted_text
 examples = (refl, refl, refl, refl)

@@ -2,7 +2,6 @@
 -- counts of the run's marks. On refusal the only line is that of the refusal.
 -- Assumes nothing: these are definitions.
 use Rattle.std.specs.Prelude.{List, ℕ, ◌*◌}
-use Rattle.matching.specs.Scheme.{both_lists}
 use Rattle.bases.specs.Letter.{bases_of}
 use Rattle.marks.specs.declared.count.Counts.{Counts}
 use Rattle.marks.specs.Counts.{counts_of}
@@ -23,7 +22,7 @@ counts_line c =
 
 -- The counts of two accepted lists: those of the marks that the card gives their entries.
 abbrev pub counts_for : List ℕ → List ℕ → List ℕ → Counts
-counts_for reference first second = counts_of (merged_items first second) (all_marks both_lists reference (clusters_of reference first second))
+counts_for reference first second = counts_of (merged_items first second) (all_marks reference (clusters_of reference first second))
 
 unfoldable pub counted_text : List ℕ → List ℕ → List ℕ → List ℕ → List ℕ
 counted_text file name first second = told_text (refusal_of file name first second)

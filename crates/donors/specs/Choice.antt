@@ -26,6 +26,10 @@ pub record Variant : Type 0 where
   pub room1 : Bool
   pub allele1 : List ℕ
 
+-- An entry as document 01 has it: it counts 1.
+pub record Plain (x : Variant) : Type 0 where
+  pub weight : x.weight ≡ 1
+
 -- The allele for a copy, as written, and whether it takes the span.
 abbrev pub written : Variant → Copy → List ℕ
 written x copy0 = x.allele0

@@ -15,10 +15,6 @@ use Rattle.fields.proofs.bytes.begins.Kinds as begins-kinds
 use Rattle.fields.proofs.bytes.begins.Reads as begins
 use Rattle.fields.proofs.bytes.find.Kinds as find-kinds
 use Rattle.fields.proofs.bytes.find.Reads as find
-use Rattle.fields.proofs.decimal.is_decimal.Kinds as is-decimal-kinds
-use Rattle.fields.proofs.decimal.is_decimal.Reads as is-decimal
-use Rattle.fields.proofs.decimal.number_to.Kinds as number-to-kinds
-use Rattle.fields.proofs.decimal.number_to.Reads as number-to
 use Rattle.fields.proofs.field.field_from.Kinds as field-from-kinds
 use Rattle.fields.proofs.field.field_from.Reads as field-from
 use Rattle.fields.proofs.field.fields_of.Kinds as fields-of-kinds
@@ -41,8 +37,6 @@ use Rattle.fields.proofs.pos.is_digit.Kinds as is-digit-kinds
 use Rattle.fields.proofs.pos.is_digit.Reads as is_digit
 use Rattle.fields.proofs.pos.read_pos.Kinds as read-pos-kinds
 use Rattle.fields.proofs.pos.read_pos.Reads as read_pos
-use Rattle.fields.proofs.weight.read_weight.Kinds as read-weight-kinds
-use Rattle.fields.proofs.weight.read_weight.Reads as read-weight
 
 pub is_right_size_determines : OneResult 1 is-right-size-kinds.ps is-right-size-kinds.r is-right-size.Post
 is_right_size_determines κs a z z' e e' p q = p ∙ sym q
@@ -85,15 +79,6 @@ is_digit_determines κs a z z' e e' p q = p ∙ sym q
 
 pub read_pos_determines : OneResult 1 read-pos-kinds.ps read-pos-kinds.r read_pos.Post
 read_pos_determines κs a z z' e e' p q = p ∙ sym q
-
-pub is_decimal_determines : OneResult 1 is-decimal-kinds.ps is-decimal-kinds.r is-decimal.Post
-is_decimal_determines κs a z z' e e' p q = p ∙ sym q
-
-pub number_to_determines : OneResult 1 number-to-kinds.ps number-to-kinds.r number-to.Post
-number_to_determines κs a z z' e e' p q = p ∙ sym q
-
-pub read_weight_determines : OneResult 1 read-weight-kinds.ps read-weight-kinds.r read-weight.Post
-read_weight_determines κs a z z' e e' p q = p ∙ sym q
 
 pub field_from_determines : OneSeen 1 field-from-kinds.ps field-from-kinds.r field-from.Post (List ℕ) (λ κs z. z.now)
 field_from_determines κs a z z' e e' p q = p ∙ sym q

@@ -77,7 +77,6 @@ pub record Read (l : List ℕ) (f : Fields) : Type 0 where
   pub pos : f.pos ≡ field_at 1 l
   pub reference : f.reference ≡ field_at 3 l
   pub alt : f.alt ≡ field_at 4 l
-  pub info : f.info ≡ field_at 7 l
   pub format : f.format ≡ field_at 8 l
   pub sample : f.sample ≡ field_at 9 l
 
@@ -87,11 +86,10 @@ read l f e =
       pos = ap (λ (g : Fields). g.pos) e;
       reference = ap (λ (g : Fields). g.reference) e;
       alt = ap (λ (g : Fields). g.alt) e;
-      info = ap (λ (g : Fields). g.info) e;
       format = ap (λ (g : Fields). g.format) e;
       sample = ap (λ (g : Fields). g.sample) e;
     }
 
-pub fields_are : (l : List ℕ) {p r a i f s : ℕ} → p ≡ field_at 1 l → r ≡ field_at 3 l → a ≡ field_at 4 l → i ≡ field_at 7 l → f ≡ field_at 8 l → s ≡ field_at 9 l
-    → ◌≡◌ {A = Fields} record { pos = p; reference = r; alt = a; info = i; format = f; sample = s } (fields_of l)
-fields_are l e1 e3 e4 e7 e8 e9 = cc
+pub fields_are : (l : List ℕ) {p r a f s : ℕ} → p ≡ field_at 1 l → r ≡ field_at 3 l → a ≡ field_at 4 l → f ≡ field_at 8 l → s ≡ field_at 9 l
+    → ◌≡◌ {A = Fields} record { pos = p; reference = r; alt = a; format = f; sample = s } (fields_of l)
+fields_are l e1 e3 e4 e8 e9 = cc

@@ -1,9 +1,6 @@
 pub mod AlleleLaws
 pub mod BytesLaws
-pub mod DecimalLaws
 pub mod Determines
 pub mod FieldLaws
 pub mod GenotypeLaws
 pub mod PosLaws
-pub mod WeightExamples
-pub mod WeightLaws

@@ -1,15 +1,14 @@
 -- Laws of POS.
 --     digit_low, digit_high                   where a digit lies
 --     digits_stop, digits_more, digits_past   all are digits from i on: by the byte at i, and at the end
---     digits_here                             where all bytes from i on are digits, so are the one at i and those behind it
 --     value_more, value_past                  the number that the bytes from i on write behind v
 --     value_grows                             a further digit never makes the number smaller
 --     first_byte                              the first byte does not depend on what stands for none
 --     pos_other, pos_zero, pos_large, pos_is  the POS of a field: none for a byte that is no digit, a leading zero, or a number too large
 -- Assumes nothing.
-use mathlib.Core.Bool.{Bool, true, false, ◌&&◌, and-false, and-eq-true_iff}
+use mathlib.Core.Bool.{true, false, ◌&&◌, and-false, and-eq-true_iff}
 use mathlib.Core.List.{List, [], ◌∷◌}
-use mathlib.Core.Path.{◌≡◌, refl, sym, ◌∙◌}
+use mathlib.Core.Path.{◌≡◌, refl, ◌∙◌}
 use Prim.Native.Nat.{ℕ, ◌+◌, ◌-◌, ◌*◌, ◌≤◌, ◌<◌}
 use native.Mathlib.Numerals.{add-one}
 use native.Mathlib.Omega.{arith}
@@ -17,7 +16,6 @@ use lib.Dec.{leb}
 use lib.ListN.{length, get_or, drop, drop_of_length-le}
 use lib.Seq.{drop-cons}
 use borrow.Author.Tests.{leb-true, le-leb, lt-leb, ne_eqb}
-use Rattle.bases.proofs.TestLaws.{of_false}
 use Rattle.fields.specs.Pos.{digit?, all_digits?, value_from, largest_pos, is_pos?, no_pos, read_pos}
 
 pub digit_low : (b : ℕ) → digit? b ≡ true → 48 ≤ b
@@ -39,13 +37,6 @@ digits_more f i h e = digits_at f i h ∙ rw e
 pub digits_past : (f : List ℕ) (i : ℕ) → length f ≤ i → all_digits? (drop i f) ≡ true
 unfolding all_digits?
 digits_past f i h = rw (drop_of_length-le f {i = i} h)
-
-pub digits_here : (f : List ℕ) (i : ℕ) → i < length f → all_digits? (drop i f) ≡ true → (digit? (get_or f i 0) ≡ true) × (all_digits? (drop (i + 1) f) ≡ true)
-digits_here f i h e = go (digit? (get_or f i 0)) refl
-  where
-    go : (t : Bool) → digit? (get_or f i 0) ≡ t → (digit? (get_or f i 0) ≡ true) × (all_digits? (drop (i + 1) f) ≡ true)
-    go true k = (k, sym (digits_more f i h k) ∙ e)
-    go false k = absurd (of_false (sym e ∙ digits_stop f i h k) tt)
 
 pub value_more : (v : ℕ) (f : List ℕ) (i : ℕ) → i < length f → value_from v (drop i f) ≡ value_from (v * 10 + (get_or f i 0 - 48)) (drop (i + 1) f)
 unfolding value_from

@@ -1,4 +1,4 @@
--- The bytes that have a meaning in a list's text, its fixed byte strings, where a byte is found, and what stands between such bytes.
+-- The bytes that have a meaning in a list's text, its fixed byte strings, and where a byte is found.
 -- Assumes nothing: these are definitions.
 use Rattle.std.specs.Prelude.{Bool, ◌&&◌, List, [], ◌∷◌, ℕ, suc, eqb, leb, length}
 use Rattle.bases.specs.Pick.{pick}
@@ -15,9 +15,6 @@ COMMA = 44
 
 abbrev pub COLON : ℕ
 COLON = 58
-
-abbrev pub SEMICOLON : ℕ
-SEMICOLON = 59
 
 -- ##fileformat=VCFv4.2
 abbrev pub version_line : List ℕ
@@ -44,10 +41,6 @@ hash = 35 ∷ []
 abbrev pub genotype_key : List ℕ
 genotype_key = 71 ∷ 84 ∷ []
 
--- CW=
-abbrev pub weight_key : List ℕ
-weight_key = 67 ∷ 87 ∷ 61 ∷ []
-
 -- How many bytes stand before the first x: all of them where there is none.
 unfoldable pub until : ℕ → List ℕ → ℕ
 until x [] = 0
@@ -56,13 +49,3 @@ until x (b ∷ bs) = pick (eqb b x) 0 (suc (until x bs))
 -- The list begins with p.
 abbrev pub begins? : List ℕ → List ℕ → Bool
 begins? p l = leb (length p) (length l) && agree? p l
-
--- A byte in front of the first of some pieces.
-abbrev pub onto : ℕ → List (List ℕ) → List (List ℕ)
-onto b [] = (b ∷ []) ∷ []
-onto b (l ∷ ls) = (b ∷ l) ∷ ls
-
--- The pieces of a list between the bytes x, without these. Behind an x at the end there is no piece.
-unfoldable pub pieces : ℕ → List ℕ → List (List ℕ)
-pieces x [] = []
-pieces x (b ∷ bs) = let ls = pieces x bs in pick (eqb b x) ([] ∷ ls) (onto b ls)

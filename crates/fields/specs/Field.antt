@@ -38,14 +38,7 @@ field_count = 10
 abbrev pub ten_fields? : List ℕ → Bool
 ten_fields? l = full? field_count l 0
 
--- Where the fields that are read begin: POS, REF, ALT, INFO, FORMAT and the sample. (CHROM begins at 0.)
+-- Where the fields that are read begin: POS, REF, ALT, FORMAT and the sample. (CHROM begins at 0.)
 abbrev pub fields_of : List ℕ → Fields
 fields_of l =
-    record {
-      pos = field_at 1 l;
-      reference = field_at 3 l;
-      alt = field_at 4 l;
-      info = field_at 7 l;
-      format = field_at 8 l;
-      sample = field_at 9 l;
-    }
+    record { pos = field_at 1 l; reference = field_at 3 l; alt = field_at 4 l; format = field_at 8 l; sample = field_at 9 l }

@@ -1,9 +1,6 @@
 pub mod Allele
-pub mod Ascii
 pub mod Bytes
-pub mod Decimal
 pub mod Field
 pub mod Genotype
 pub mod Header
 pub mod Pos
-pub mod Weight

@@ -12,8 +12,6 @@ pub const COMMA: u8 = b',';
 
 pub const COLON: u8 = b':';
 
-pub const SEMICOLON: u8 = b';';
-
 // Where the first x at `from` or behind it stands, or the end of the bytes.
 pub fn find(bytes: &[u8], from: usize, x: u8) -> usize
     ensures { result ≡ from + until x (drop from bytes.now) }

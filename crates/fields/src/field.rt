@@ -48,13 +48,12 @@ pub fn has_ten_fields(line: &[u8]) -> bool
     at == line.len() + 1
 }
 
-// Where the fields that are read begin: POS, REF, ALT, INFO, FORMAT and the sample. (CHROM begins at 0.)
+// Where the fields that are read begin: POS, REF, ALT, FORMAT and the sample. (CHROM begins at 0.)
 #[derive(Drop)]
 pub struct Fields {
     pub pos: usize,
     pub reference: usize,
     pub alt: usize,
-    pub info: usize,
     pub format: usize,
     pub sample: usize,
 }
@@ -67,14 +66,12 @@ pub fn fields_of(line: &[u8]) -> Fields
     let pos = skip_fields(line, 0, 1);
     let reference = skip_fields(line, pos, 2);
     let alt = skip_fields(line, reference, 1);
-    let info = skip_fields(line, alt, 3);
-    let format = skip_fields(line, info, 1);
+    let format = skip_fields(line, alt, 4);
     let sample = skip_fields(line, format, 1);
     Fields {
         pos,
         reference,
         alt,
-        info,
         format,
         sample,
     }

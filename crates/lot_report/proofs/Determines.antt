@@ -5,6 +5,8 @@ use mathlib.Core.List.{List}
 use mathlib.Core.Path.{sym, ◌∙◌}
 use Prim.Native.Nat.{ℕ}
 use Rattle.bases.proofs.Determines.{OneResult, OneLeft}
+use Rattle.lot_report.proofs.count.is_count.Kinds as is-count-kinds
+use Rattle.lot_report.proofs.count.is_count.Reads as is-count
 use Rattle.lot_report.proofs.count.read_count.Kinds as read-count-kinds
 use Rattle.lot_report.proofs.count.read_count.Reads as read_count
 use Rattle.lot_report.proofs.report.report_text.Kinds as report-text-kinds
@@ -25,6 +27,9 @@ use Rattle.lot_report.proofs.share.put_share.Kinds as put-share-kinds
 use Rattle.lot_report.proofs.share.put_share.Reads as put-share
 use Rattle.lot_report.proofs.table.put_table.Kinds as put-table-kinds
 use Rattle.lot_report.proofs.table.put_table.Reads as put-table
+
+pub is_count_determines : OneResult 1 is-count-kinds.ps is-count-kinds.r is-count.Post
+is_count_determines κs a z z' e e' p q = p ∙ sym q
 
 pub read_count_determines : OneResult 1 read-count-kinds.ps read-count-kinds.r read_count.Post
 read_count_determines κs a z z' e e' p q = p ∙ sym q

@@ -8,8 +8,9 @@ use Rattle.lines.specs.Lines.{refused_text}
 use Rattle.lot.specs.Lot.{lot_of}
 use Rattle.lot.specs.Run.{any_large?, total_of}
 use Rattle.written.specs.Written.{digits_of}
-use Rattle.fields.specs.Bytes.{LF, until, pieces}
+use Rattle.fields.specs.Bytes.{LF, until}
 use Rattle.fields.specs.Field.{skip}
+use Rattle.vcf.specs.List.{lines_of}
 use Rattle.fields.specs.Pos.{all_digits?, value_from}
 use Rattle.lot_report.specs.Report.{runs_report, report_text}
 use Rattle.lot_report.specs.Run.{runs_heading, counts?, bad_line}
@@ -38,31 +39,31 @@ printed =
     48 ∷ 10 ∷ []
 
 pub example_lot : report_text (text two) ≡ heading ++ printed
-unfolding agree? until pieces all_digits? value_from skip counts? bad_line digits_of any_large? total_of lot_of share_text line_text runs_text runs_report report_text
+unfolding agree? until lines_of all_digits? value_from skip counts? bad_line digits_of any_large? total_of lot_of share_text line_text runs_text runs_report report_text
 example_lot = refl
 
 -- A file that cannot be read.
 pub example_empty : report_text [] ≡ refused_text 3 0 0 0
-unfolding agree? until pieces all_digits? value_from skip counts? bad_line digits_of any_large? total_of lot_of share_text line_text runs_text runs_report report_text
+unfolding agree? until lines_of all_digits? value_from skip counts? bad_line digits_of any_large? total_of lot_of share_text line_text runs_text runs_report report_text
 example_empty = refl
 
 -- A text without the heading.
 pub example_unheaded : report_text two ≡ refused_text 5 0 1 0
-unfolding agree? until pieces all_digits? value_from skip counts? bad_line digits_of any_large? total_of lot_of share_text line_text runs_text runs_report report_text
+unfolding agree? until lines_of all_digits? value_from skip counts? bad_line digits_of any_large? total_of lot_of share_text line_text runs_text runs_report report_text
 example_unheaded = refl
 
 -- Line 2 has a leading zero.
 pub example_zero : report_text (text (97 ∷ 9 ∷ 49 ∷ 9 ∷ 49 ∷ 9 ∷ 49 ∷ 9 ∷ 49 ∷ 9 ∷ 49 ∷ 9 ∷ 48 ∷ 49 ∷ 10 ∷ [])) ≡ refused_text 6 0 2 0
-unfolding agree? until pieces all_digits? value_from skip counts? bad_line digits_of any_large? total_of lot_of share_text line_text runs_text runs_report report_text
+unfolding agree? until lines_of all_digits? value_from skip counts? bad_line digits_of any_large? total_of lot_of share_text line_text runs_text runs_report report_text
 example_zero = refl
 
 -- No run.
 pub example_none : report_text (text []) ≡ refused_text 30 0 0 0
-unfolding agree? until pieces all_digits? value_from skip counts? bad_line digits_of any_large? total_of lot_of share_text line_text runs_text runs_report report_text
+unfolding agree? until lines_of all_digits? value_from skip counts? bad_line digits_of any_large? total_of lot_of share_text line_text runs_text runs_report report_text
 example_none = refl
 
 -- A count that no number of 32 bits holds.
 pub example_large : report_text (text (97 ∷ 9 ∷ 52 ∷ 50 ∷ 57 ∷ 52 ∷ 57 ∷ 54 ∷ 55 ∷ 50 ∷ 57 ∷ 54 ∷ 9 ∷ 48 ∷ 9 ∷ 48 ∷ 9 ∷ 48 ∷ 9 ∷ 48 ∷ 9 ∷ 48 ∷ 10 ∷
     [])) ≡ refused_text 31 0 0 0
-unfolding agree? until pieces all_digits? value_from skip counts? bad_line digits_of any_large? total_of lot_of share_text line_text runs_text runs_report report_text
+unfolding agree? until lines_of all_digits? value_from skip counts? bad_line digits_of any_large? total_of lot_of share_text line_text runs_text runs_report report_text
 example_large = refl

@@ -24,13 +24,12 @@ use Rattle.written.proofs.FieldThenLaws.{field_here, field_next}
 use Rattle.written.proofs.WithoutLaws.{Without, without_append, without_cons, without_digits, until_found}
 use Rattle.written.specs.Lines.{All}
 use Rattle.written.specs.Written.{digits_of, decimal, field_then}
-use Rattle.fields.proofs.DecimalLaws.{decimal_digits}
 use Rattle.fields.specs.Bytes.{TAB}
 use Rattle.fields.specs.Field.{field, field_end, field_from, skip}
 use Rattle.fields.specs.Pos.{all_digits?, value_from, largest_pos, is_pos?, read_pos}
 use Rattle.lot_report.specs.Count.{count?, capped, count_of}
 use Rattle.lot_report.specs.Run.{counts?}
-use Rattle.lot_report.proofs.CountLaws.{capped_small}
+use Rattle.lot_report.proofs.CountLaws.{count_digits, capped_small}
 use Rattle.lot_report.proofs.RunLaws.{counts_zero}
 
 -- A field that writes a number from 1 on as a POS is a count.
@@ -123,4 +122,4 @@ counts_joined f (g ∷ gs) h hs =
 pub count_of_number : (n : ℕ) → n ≤ largest_pos → IsCount (number n)
 count_of_number n h =
     let c = (count_written n h).0 in
-    record { free = without_digits TAB (number n) refl (of_true (decimal_digits (number n) c)); count = c }
+    record { free = without_digits TAB (number n) refl (of_true (count_digits (number n) c)); count = c }

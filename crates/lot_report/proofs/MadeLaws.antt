@@ -23,7 +23,6 @@ use Rattle.written.proofs.WithoutLaws.{Without, without_digits}
 use Rattle.written.specs.Lines.{All}
 use Rattle.written.specs.Written.{text_of}
 use Rattle.vcf.proofs.ListLaws.{lines_at}
-use Rattle.fields.proofs.DecimalLaws.{decimal_digits}
 use Rattle.fields.specs.Bytes.{LF, TAB, until}
 use Rattle.vcf.specs.Entry.{line_at}
 use Rattle.fields.specs.Field.{field}
@@ -34,6 +33,7 @@ use Rattle.lot_report.specs.Made.{Named, made_lines, made_text, Sound, AllSound,
 use Rattle.lot_report.specs.Report.{runs_report, report_text}
 use Rattle.lot_report.specs.Run.{runs_heading, headed?, run?, name_of, run_on, run_lines, bad_line, runs_on}
 use Rattle.lot_report.specs.Table.{runs_text}
+use Rattle.lot_report.proofs.CountLaws.{count_digits}
 use Rattle.lot_report.proofs.JoinedLaws.{joined, count_written, field_joined, counts_joined, free_joined, then_end, counts_after, IsCount, count_of_number}
 use Rattle.lot_report.proofs.ReportLaws.{right_text, report_runs}
 use Rattle.lot_report.proofs.RunLaws.{run_named, bad_none, bad_more}
@@ -100,7 +100,7 @@ module _ (n : Named) (s : Sound n) where
   unfolding line_of
   line_no_lf =
       free_joined LF refl n.name (map number (counts n.run)) s.no_lf
-      (each (Without LF) (λ k h. without_digits LF (number k) refl (of_true (decimal_digits (number k) (count_written k h).0))) n.run s.small)
+      (each (Without LF) (λ k h. without_digits LF (number k) refl (of_true (count_digits (number k) (count_written k h).0))) n.run s.small)
 
 -- The lines that are made, below the heading.
 made_lines_lem : (ns : List Named) → made_lines ns ≡ text_of (map line_of ns)

@@ -19,16 +19,16 @@ use lib.Dec.{T, eqb, ltb}
 use lib.ListN.{length, drop}
 use Rattle.bases.proofs.TestLaws.{of_true, of_false, is_true, both}
 use Rattle.bases.specs.Pick.{pick}
-use Rattle.fields.proofs.DecimalLaws.{decimal_none, decimal_digits}
 use Rattle.fields.proofs.FieldLaws.{until_within, field_length, skip_more}
 use Rattle.vcf.proofs.ListLaws.{lines_at}
-use Rattle.fields.specs.Bytes.{LF, TAB, onto, pieces}
+use Rattle.fields.specs.Bytes.{LF, TAB}
 use Rattle.vcf.specs.Entry.{line_at, next_line}
 use Rattle.fields.specs.Field.{field_end, field_from, field, field_at, skip}
-use Rattle.vcf.specs.List.{lines_of}
+use Rattle.vcf.specs.List.{onto, lines_of}
 use Rattle.fields.specs.Pos.{all_digits?}
 use Rattle.lot_report.specs.Count.{count?}
 use Rattle.lot_report.specs.Run.{counts_of_run, counts?, run?, bad_line, all_runs?}
+use Rattle.lot_report.proofs.CountLaws.{count_none, count_digits}
 
 pub run_unnamed : (l : List ℕ) → field_end l 0 ≡ 0 → run? l ≡ false
 run_unnamed l e = rw e
@@ -52,11 +52,11 @@ pub counts_more : (n : ℕ) (l : List ℕ) (a : ℕ) → 0 < n → count? (field
 counts_more n l a h e = counts_at n l a h ∙ rw e
 
 pub counts_past : (n : ℕ) (l : List ℕ) (a : ℕ) → 0 < n → length l ≤ a → counts? n l a ≡ false
-counts_past n l a h k = counts_stop n l a h (decimal_none (field_from l a) (omega (arith, field_length l a, until_within TAB l a)))
+counts_past n l a h k = counts_stop n l a h (count_none (field_from l a) (omega (arith, field_length l a, until_within TAB l a)))
 
 -- A field that is a count.
 field_digits : (l : List ℕ) (a : ℕ) → count? (field_from l a) ≡ true → (a ≤ length l) × T (all_digits? (field_from l a))
-field_digits l a e = (omega (arith, field_length l a, until_within TAB l a, some (length (field_from l a)) (decimal_none (field_from l a))), of_true (decimal_digits (field_from l a) e))
+field_digits l a e = (omega (arith, field_length l a, until_within TAB l a, some (length (field_from l a)) (count_none (field_from l a))), of_true (count_digits (field_from l a) e))
   where
     some : (n : ℕ) → (n ≡ 0 → count? (field_from l a) ≡ false) → 0 < n
     some zero h = absurd (of_false (sym e ∙ h refl) tt)
@@ -116,7 +116,7 @@ module _ (t : List ℕ) (a : ℕ) (h : a < length t) (r : T (all_runs? (lines_of
   runs_next = two.1
 
 pub lines_few : (t : List ℕ) → length (lines_of t) ≤ length t
-unfolding pieces
+unfolding lines_of
 lines_few [] = omega arith
 lines_few (b ∷ bs) = go (eqb b LF) (lines_of bs) (lines_few bs)
   where

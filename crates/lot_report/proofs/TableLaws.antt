@@ -21,10 +21,10 @@ use Rattle.lot.specs.Run.{large?, any_large?}
 use Rattle.vcf.proofs.EntryLaws.{line_length}
 use Rattle.fields.proofs.FieldLaws.{until_within, field_length}
 use Rattle.vcf.proofs.ListLaws.{lines_at, lines_past}
-use Rattle.fields.specs.Bytes.{LF, TAB, onto, pieces}
+use Rattle.fields.specs.Bytes.{LF, TAB}
 use Rattle.vcf.specs.Entry.{line_at, next_line}
 use Rattle.fields.specs.Field.{field_at}
-use Rattle.vcf.specs.List.{lines_of}
+use Rattle.vcf.specs.List.{onto, lines_of}
 use Rattle.lot_report.specs.Fine.{Fine, AllFine}
 use Rattle.lot_report.specs.Run.{name_of, run_on, runs_on}
 use Rattle.lot_report.specs.Table.{line_most, run_text, runs_text}
@@ -45,7 +45,7 @@ lines_runs_few [] = omega arith
 lines_runs_few (l ∷ ls) = omega (arith, length-append (run_text l) (runs_text ls), run_line_few l, lines_runs_few ls)
 
 bytes_few : (t : List ℕ) → bytes_on (lines_of t) ≤ length t
-unfolding pieces bytes_on
+unfolding lines_of bytes_on
 bytes_few [] = omega arith
 bytes_few (b ∷ bs) = go (eqb b LF) (lines_of bs) (bytes_few bs)
   where

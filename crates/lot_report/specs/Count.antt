@@ -1,14 +1,13 @@
 -- A count in a line of runs.tsv: decimal, no leading zero (`0` itself is fine), of any size. What is above 4,294,967,295 is read as that,
 -- and so is refused by the lot.
 -- Assumes nothing: these are definitions.
-use Rattle.std.specs.Prelude.{Bool, List, ℕ, leb}
+use Rattle.std.specs.Prelude.{Bool, not, ◌&&◌, ◌||◌, List, ℕ, eqb, leb, length, get_or}
 use Rattle.bases.specs.Pick.{pick}
-use Rattle.fields.specs.Decimal.{decimal?}
-use Rattle.fields.specs.Pos.{value_from}
+use Rattle.fields.specs.Pos.{all_digits?, value_from}
 
 -- The field is a count.
 abbrev pub count? : List ℕ → Bool
-count? = decimal?
+count? f = all_digits? f && (eqb (length f) 1 || not (eqb (get_or f 0 48) 48))
 
 -- The largest count that is told from larger ones.
 abbrev pub largest_count : ℕ

@@ -5,10 +5,9 @@ ghost use Rattle.vcf.specs.List.{lines_of};
 ghost use Rattle.lot_report.specs.Count.{count_of};
 ghost use Rattle.lot_report.specs.Run.{headed?, counts_of_run, run?, run_on, bad_line};
 
-use crate::count::read_count;
+use crate::count::{is_count, read_count};
 use bases::bytes::same_bytes;
 use fields::bytes::{LF, TAB, find};
-use fields::decimal::is_decimal;
 use fields::field::{field_from, skip_fields};
 use lot::run::Run;
 
@@ -40,7 +39,7 @@ pub fn is_run(line: &[u8]) -> bool
         if line.len() < at {
             return false;
         }
-        if !is_decimal(field_from(line, at)) {
+        if !is_count(field_from(line, at)) {
             return false;
         }
         at = skip_fields(line, at, 1);

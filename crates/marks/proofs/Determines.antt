@@ -30,17 +30,17 @@ count_lists_determines κs a z z' e e' p q = p ∙ sym q
 pub put_rows_determines : OneResult 3 put-rows-kinds.ps put-rows-kinds.r put-rows.Post
 put_rows_determines κs a z z' e e' p q = refl
 
-pub put_rows_leaves : OneLeft 3 put-rows-kinds.ps put-rows-kinds.r put-rows.Post (List ℕ) (λ κs e. e.1.1.1.1.1.0.now)
+pub put_rows_leaves : OneLeft 3 put-rows-kinds.ps put-rows-kinds.r put-rows.Post (List ℕ) (λ κs e. e.1.1.1.1.0.now)
 put_rows_leaves κs a z z' e e' p q = p ∙ sym q
 
 pub mark_every_determines : OneResult 4 mark-every-kinds.ps mark-every-kinds.r mark-every.Post
 mark_every_determines κs a z z' e e' p q = p.0 ∙ sym q.0
 
-pub mark_every_leaves : OneLeft 4 mark-every-kinds.ps mark-every-kinds.r mark-every.Post (List ℕ) (λ κs e. e.1.1.1.1.0.now)
+pub mark_every_leaves : OneLeft 4 mark-every-kinds.ps mark-every-kinds.r mark-every.Post (List ℕ) (λ κs e. e.1.1.1.0.now)
 mark_every_leaves κs a z z' e e' p q = p.1 ∙ sym q.1
 
 pub mark_one_determines : OneResult 4 mark-one-kinds.ps mark-one-kinds.r mark-one.Post
 mark_one_determines κs a z z' e e' p q = p.0 ∙ sym q.0
 
-pub mark_one_leaves : OneLeft 4 mark-one-kinds.ps mark-one-kinds.r mark-one.Post (List ℕ) (λ κs e. e.1.1.1.1.1.0.now)
+pub mark_one_leaves : OneLeft 4 mark-one-kinds.ps mark-one-kinds.r mark-one.Post (List ℕ) (λ κs e. e.1.1.1.1.0.now)
 mark_one_leaves κs a z z' e e' p q = p.1 ∙ sym q.1

@@ -46,13 +46,13 @@ marked_question : (n : ℕ) → Marked (replicate n QUESTION)
 marked_question zero = tt
 marked_question (suc n) = (tt, marked_question n)
 
-pub all_marked_lem : (scheme : ℕ) (reference : List ℕ) (cs : List (List Variant)) → Marked (all_marks scheme reference cs)
+pub all_marked_lem : (reference : List ℕ) (cs : List (List Variant)) → Marked (all_marks reference cs)
 unfolding join
-all_marked_lem scheme reference [] = tt
-all_marked_lem scheme reference (c ∷ cs) = marked_append (marks_of scheme reference c) (all_marks scheme reference cs) (go (decided? c)) (all_marked_lem scheme reference cs)
+all_marked_lem reference [] = tt
+all_marked_lem reference (c ∷ cs) = marked_append (marks_of reference c) (all_marks reference cs) (go (decided? c)) (all_marked_lem reference cs)
   where
-    go : (t : Bool) → Marked (pick t (map byte_of (card_best scheme reference c)) (replicate (length c) QUESTION))
-    go true = marked_bytes (card_best scheme reference c)
+    go : (t : Bool) → Marked (pick t (map byte_of (card_best reference c)) (replicate (length c) QUESTION))
+    go true = marked_bytes (card_best reference c)
     go false = marked_question (length c)
 
 -- A mark is counted once.

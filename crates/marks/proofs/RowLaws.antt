@@ -1,11 +1,10 @@
 -- Laws of entries as rows of the search's table.
 --     stand_ref, stand_first, stand_second
 --                                   where the bytes of REF, of the first ALT and of the second stand
---     weight_none, weight_own       what an entry counts in a list that the scheme does not count, and in one that it does
 --     row_is                        a row, from what is read
 --     list_first, list_second, numbers_are
 --                                   the number of its list, and all its numbers
---     row_variant, row_sound        the row of an entry is the entry, as matching reads it, with the weight that counts; that of a sound entry is sound
+--     row_variant, row_sound        the row of an entry is the entry, as matching reads it; that of a sound entry is sound
 --     row_small                     and its numbers fit into a table, where the reference and the text are no longer than they may be
 -- Assumes nothing.
 use mathlib.Core.Bool.{Bool, true, false}
@@ -29,11 +28,8 @@ use Rattle.vcf.specs.Entry.{bytes_of}
 use Rattle.vcf.specs.List.{longest_text}
 use Rattle.clusters.specs.declared.item.Item.{Item}
 use Rattle.clusters.specs.Item.{start_of, allele_of, text_of, variant, len_of}
-use Rattle.marks.specs.Row.{stand_of, counted_weight, row_of, SmallEntry, kind_of, numbers_of}
+use Rattle.marks.specs.Row.{stand_of, row_of, SmallEntry, kind_of, numbers_of}
 use Rattle.clusters.proofs.CardClusters.{SoundItem}
-use Rattle.matching.specs.Scheme.{counted?}
-use Rattle.matching.proofs.CountedLaws.{weighed}
-use Rattle.matching.proofs.ScoreLaws.{only_most}
 
 -- Bytes in the list's text, of an allele that takes its entry's span: an ALT.
 abbrev in_text : Part → Allele
@@ -49,15 +45,9 @@ stand_first e ek = rw ek
 pub stand_second : (e : Entry) (k : ℕ) → 2 ≤ k → in_text e.second ≡ stand_of e k
 stand_second e k h = let n : k ≡ suc (suc (k - 2)) = omega arith in rw n
 
-pub weight_none : (scheme : ℕ) (i : Item) → counted? scheme i.side ≡ false → 0 ≡ counted_weight scheme i
-weight_none scheme i e = rw e
-
-pub weight_own : (scheme : ℕ) (i : Item) → counted? scheme i.side ≡ true → i.entry.weight ≡ counted_weight scheme i
-weight_own scheme i e = rw e
-
-pub row_is : (scheme : ℕ) (i : Item) {p : Place} {w : ℕ} {a b : Allele} → p ≡ place_of i.entry.pos → w ≡ counted_weight scheme i → a ≡ stand_of i.entry i.entry.copy0 → b ≡ stand_of i.entry i.entry.copy1
-    → ◌≡◌ {A = Row} record { first = i.side; start = p.0; len = i.entry.reference.len; weight = w; copy0 = a; copy1 = b } (row_of scheme i)
-row_is scheme i ep ew ea eb = let e = ap (λ (q : Place). q.0) ep in cc
+pub row_is : (i : Item) {p : Place} {a b : Allele} → p ≡ place_of i.entry.pos → a ≡ stand_of i.entry i.entry.copy0 → b ≡ stand_of i.entry i.entry.copy1
+    → ◌≡◌ {A = Row} record { first = i.side; start = p.0; len = i.entry.reference.len; weight = 1; copy0 = a; copy1 = b } (row_of i)
+row_is i ep ea eb = let e = ap (λ (q : Place). q.0) ep in cc
 
 pub list_first : {b : Bool} {n : ℕ} → b ≡ true → n ≡ 1 → n ≡ pick b 1 2
 list_first e n = rw e n
@@ -99,8 +89,8 @@ text_short : (b : Bool) (first second : List ℕ) → length first ≤ longest_t
 text_short true first second h l = h
 text_short false first second h l = l
 
-module _ (scheme : ℕ) (reference first second : List ℕ) (i : Item) where
-  pub row_variant : variant_of reference (pick (row_of scheme i).first first second) (row_of scheme i) ≡ weighed scheme (variant reference first second i)
+module _ (reference first second : List ℕ) (i : Item) where
+  pub row_variant : variant_of reference (pick (row_of i).first first second) (row_of i) ≡ variant reference first second i
   row_variant =
       let t = text_of i.side first second in
       let e = i.entry in
@@ -117,7 +107,7 @@ module _ (scheme : ℕ) (reference first second : List ℕ) (i : Item) where
     one_ends : Ends i.entry.copy1
     one_ends = stand_within reference (text_of i.side first second) i.entry i.entry.copy1 s.within s.long1 s.some1
 
-    pub row_sound : Sound reference (pick (row_of scheme i).first first second) (row_of scheme i)
+    pub row_sound : Sound reference (pick (row_of i).first first second) (row_of i)
     row_sound =
         rw (text_is i.side first second) (record {
           span = s.within;
@@ -127,7 +117,7 @@ module _ (scheme : ℕ) (reference first second : List ℕ) (i : Item) where
           some1 = s.some1;
         })
 
-    pub row_small : length reference ≤ longest_reference → length first ≤ longest_text → length second ≤ longest_text → SmallEntry scheme i
+    pub row_small : length reference ≤ longest_reference → length first ≤ longest_text → length second ≤ longest_text → SmallEntry i
     row_small short short1 short2 =
         let e = i.entry in
         let t = text_of i.side first second in
@@ -138,7 +128,7 @@ module _ (scheme : ℕ) (reference first second : List ℕ) (i : Item) where
           record {
             start = omega (arith, s.within);
             len = omega (arith, s.within);
-            weight = omega (arith, s.light, only_most (counted? scheme i.side) e.weight);
+            weight = omega arith;
             at0 = omega (arith, zero_ends);
             len0 = omega (arith, zero_ends);
             at1 = omega (arith, one_ends);

@@ -108,22 +108,22 @@ module _ (reference first second : List ℕ) where
           k (r (rw (skip_more k h i e) at d)))
 
   -- What is told of cluster k and the marks then, in the form that the code has: e is what the marks m became.
-  module _ (scheme k : ℕ) (h : Heads) (m : List ℕ) (g : Skipped) (at : g ≡ skip_clusters reference first second k h 0) where
+  module _ (k : ℕ) (h : Heads) (m : List ℕ) (g : Skipped) (at : g ≡ skip_clusters reference first second k h 0) where
     pub asked_none : done? first second g.heads ≡ true
-        → (not_found ≡ asked_for scheme reference (clusters_from reference first second h) k) × (m ≡ marks_after scheme reference (clusters_from reference first second h) k m)
+        → (not_found ≡ asked_for reference (clusters_from reference first second h) k) × (m ≡ marks_after reference (clusters_from reference first second h) k m)
     asked_none d =
         let cs = clusters_from reference first second h in
         let past = skip_past k h 0 (rw at at d) in
         rw (le-ltb k (length cs) past) (refl, refl)
 
     pub asked_found : done? first second g.heads ≡ false → (f : Found) → f ≡ found_at reference first second g.heads → (e : List ℕ) (r : Marked)
-        → r ≡ marked_of scheme reference (take f.count (variants_from reference first second g.heads))
-        → e ≡ put m g.entries (marks_of scheme reference (take f.count (variants_from reference first second g.heads)))
-        → (r ≡ asked_for scheme reference (clusters_from reference first second h) k) × (e ≡ marks_after scheme reference (clusters_from reference first second h) k m)
+        → r ≡ marked_of reference (take f.count (variants_from reference first second g.heads))
+        → e ≡ put m g.entries (marks_of reference (take f.count (variants_from reference first second g.heads)))
+        → (r ≡ asked_for reference (clusters_from reference first second h) k) × (e ≡ marks_after reference (clusters_from reference first second h) k m)
     asked_found d f ef e r er ee =
         let cs = clusters_from reference first second h in
         let n : f.count ≡ first_count reference first second g.heads = ap (λ (z : Found). z.count) ef in
         let found : IsCluster cs 0 k g.entries (cluster reference first second g.heads) = rw at (skip_found k h 0 (rw at at d)) in
         let c : take f.count (variants_from reference first second g.heads) ≡ cluster_at cs k = rw n found.2 in
         let j : g.entries ≡ first_entry cs k = found.1 ∙ zero-add (first_entry cs k) in
-        rw (lt-ltb k (length cs) found.0) (er ∙ ap (marked_of scheme reference) c, ee ∙ ap₂ (λ (a : ℕ) (x : List Variant). put m a (marks_of scheme reference x)) j c)
+        rw (lt-ltb k (length cs) found.0) (er ∙ ap (marked_of reference) c, ee ∙ ap₂ (λ (a : ℕ) (x : List Variant). put m a (marks_of reference x)) j c)

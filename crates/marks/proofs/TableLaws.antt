@@ -1,5 +1,5 @@
 -- Laws of the table that entries are written into.
---     table_variants, table_row     the rows that were written are read again, with the weights that count; what is so of each
+--     table_variants, table_row     the rows that were written are read again; what is so of each
 -- Assumes nothing.
 use mathlib.Core.Bool.{Bool, true, false}
 use mathlib.Core.List.{List, [], ◌∷◌, ◌++◌, append_assoc, map}
@@ -19,7 +19,6 @@ use Rattle.donors.specs.Table.{width, number_at, has_room?, in_text?, row_at, va
 use Rattle.clusters.specs.declared.item.Item.{Item}
 use Rattle.clusters.specs.Item.{variant}
 use Rattle.marks.specs.Row.{row_of, numbers_of, table_of}
-use Rattle.matching.proofs.CountedLaws.{weighed}
 use Rattle.marks.proofs.RowLaws.{row_variant}
 
 list_back : (b : Bool) → eqb (pick b 1 2) 1 ≡ b
@@ -60,7 +59,7 @@ module _ (r : Row) (t : List ℕ) where
         number_behind k 9,
       )
 
-module _ (scheme : ℕ) (reference first second : List ℕ) where
+module _ (reference first second : List ℕ) where
   -- the entry of a row
   entry_by : Row → Variant
   entry_by r = variant_of reference (pick r.first first second) r
@@ -73,28 +72,28 @@ module _ (scheme : ℕ) (reference first second : List ℕ) where
       (ap entry_by (ap (row_at (numbers_of r ++ t)) (add-one k) ∙ row_behind r t k))
       (variants_behind r t (k + 1) n)
 
-  table_then : (is : List Item) (t : List ℕ) → variants_from reference first second (table_of scheme is ++ t) 0 (length is) ≡ map (weighed scheme) (map (variant reference first second) is)
+  table_then : (is : List Item) (t : List ℕ) → variants_from reference first second (table_of is ++ t) 0 (length is) ≡ map (variant reference first second) is
   unfolding variants_from table_of entry_by
   table_then [] t = refl
   table_then (i ∷ is) t =
-      let r = row_of scheme i in
-      let u = table_of scheme is ++ t in
-      rw (append_assoc (numbers_of r) (table_of scheme is) t)
+      let r = row_of i in
+      let u = table_of is ++ t in
+      rw (append_assoc (numbers_of r) (table_of is) t)
       (ap₂ (λ (x : Variant) (xs : List Variant). x ∷ xs)
-      (ap entry_by (row_front r u) ∙ row_variant scheme reference first second i)
+      (ap entry_by (row_front r u) ∙ row_variant reference first second i)
       (variants_behind r u 0 (length is) ∙ table_then is t))
 
-  pub table_variants : (t : List ℕ) (is : List Item) → variants_from reference first second (put t 0 (table_of scheme is)) 0 (length is) ≡ map (weighed scheme) (map (variant reference first second) is)
-  table_variants t is = table_then is (drop (0 + length (table_of scheme is)) t)
+  pub table_variants : (t : List ℕ) (is : List Item) → variants_from reference first second (put t 0 (table_of is)) 0 (length is) ≡ map (variant reference first second) is
+  table_variants t is = table_then is (drop (0 + length (table_of is)) t)
 
-module _ (scheme : ℕ) (P : Row → Type 0) where
-  row_then : (is : List Item) (t : List ℕ) (k : ℕ) → k < length is → All (λ (i : Item). P (row_of scheme i)) is → P (row_at (table_of scheme is ++ t) k)
+module _ (P : Row → Type 0) where
+  row_then : (is : List Item) (t : List ℕ) (k : ℕ) → k < length is → All (λ (i : Item). P (row_of i)) is → P (row_at (table_of is ++ t) k)
   unfolding table_of
   row_then [] t k h a = absurd (omega arith)
-  row_then (i ∷ is) t zero h a = subst P (sym (ap (λ (u : List ℕ). row_at u 0) (append_assoc (numbers_of (row_of scheme i)) (table_of scheme is) t) ∙ row_front (row_of scheme i) (table_of scheme is ++ t))) a.0
+  row_then (i ∷ is) t zero h a = subst P (sym (ap (λ (u : List ℕ). row_at u 0) (append_assoc (numbers_of (row_of i)) (table_of is) t) ∙ row_front (row_of i) (table_of is ++ t))) a.0
   row_then (i ∷ is) t (suc k) h a =
-      subst P (sym (ap (λ (u : List ℕ). row_at u (suc k)) (append_assoc (numbers_of (row_of scheme i)) (table_of scheme is) t) ∙ row_behind (row_of scheme i) (table_of scheme is ++ t) k))
+      subst P (sym (ap (λ (u : List ℕ). row_at u (suc k)) (append_assoc (numbers_of (row_of i)) (table_of is) t) ∙ row_behind (row_of i) (table_of is ++ t) k))
       (row_then is t k (omega arith) a.1)
 
-  pub table_row : (t : List ℕ) (is : List Item) (k : ℕ) → k < length is → All (λ (i : Item). P (row_of scheme i)) is → P (row_at (put t 0 (table_of scheme is)) k)
-  table_row t is k h a = row_then is (drop (0 + length (table_of scheme is)) t) k h a
+  pub table_row : (t : List ℕ) (is : List Item) (k : ℕ) → k < length is → All (λ (i : Item). P (row_of i)) is → P (row_at (put t 0 (table_of is)) k)
+  table_row t is k h a = row_then is (drop (0 + length (table_of is)) t) k h a

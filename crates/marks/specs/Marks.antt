@@ -23,17 +23,17 @@ QUESTION = 63
 abbrev pub decided? : List Variant → Bool
 decided? c = leb (length c) most
 
--- The marks of a cluster's entries under a scheme: the choices of its best pair, or `?` for each.
-abbrev pub marks_of : ℕ → List ℕ → List Variant → List ℕ
-marks_of scheme reference c = pick (decided? c) (map byte_of (card_best scheme reference c)) (replicate (length c) QUESTION)
+-- The marks of a cluster's entries: the choices of its best pair, or `?` for each.
+abbrev pub marks_of : List ℕ → List Variant → List ℕ
+marks_of reference c = pick (decided? c) (map byte_of (card_best reference c)) (replicate (length c) QUESTION)
 
 -- The score of a cluster: that of its best pair; none where it is undecided.
-abbrev pub score_of : ℕ → List ℕ → List Variant → ℕ
-score_of scheme reference c = pick (decided? c) (score (card_scoring scheme) c (card_best scheme reference c)) 0
+abbrev pub score_of : List ℕ → List Variant → ℕ
+score_of reference c = pick (decided? c) (score card_scoring c (card_best reference c)) 0
 
 -- What is told of a cluster that was marked; and where there is no such cluster.
-abbrev pub marked_of : ℕ → List ℕ → List Variant → Marked
-marked_of scheme reference c = record { found = true; decided = decided? c; score = score_of scheme reference c }
+abbrev pub marked_of : List ℕ → List Variant → Marked
+marked_of reference c = record { found = true; decided = decided? c; score = score_of reference c }
 
 abbrev pub not_found : Marked
 not_found = record { found = false; decided = false; score = 0 }
@@ -58,19 +58,18 @@ abbrev pub is_cluster? : List (List Variant) → ℕ → Bool
 is_cluster? cs k = ltb k (length cs)
 
 -- What is told where cluster k is asked for,
-abbrev pub asked_for : ℕ → List ℕ → List (List Variant) → ℕ → Marked
-asked_for scheme reference cs k = pick (is_cluster? cs k) (marked_of scheme reference (cluster_at cs k)) not_found
+abbrev pub asked_for : List ℕ → List (List Variant) → ℕ → Marked
+asked_for reference cs k = pick (is_cluster? cs k) (marked_of reference (cluster_at cs k)) not_found
 
 -- and the marks then: only those of its entries are written, and none where there is no such cluster.
-abbrev pub marks_after : ℕ → List ℕ → List (List Variant) → ℕ → List ℕ → List ℕ
-marks_after scheme reference cs k marks =
-    pick (is_cluster? cs k) (put marks (first_entry cs k) (marks_of scheme reference (cluster_at cs k))) marks
+abbrev pub marks_after : List ℕ → List (List Variant) → ℕ → List ℕ → List ℕ
+marks_after reference cs k marks = pick (is_cluster? cs k) (put marks (first_entry cs k) (marks_of reference (cluster_at cs k))) marks
 
 -- The marks of all entries, cluster by cluster.
-abbrev pub all_marks : ℕ → List ℕ → List (List Variant) → List ℕ
-all_marks scheme reference cs = join (map (marks_of scheme reference) cs)
+abbrev pub all_marks : List ℕ → List (List Variant) → List ℕ
+all_marks reference cs = join (map (marks_of reference) cs)
 
 -- The score summed over the decided clusters.
-unfoldable pub total_score : ℕ → List ℕ → List (List Variant) → ℕ
-total_score scheme reference [] = 0
-total_score scheme reference (c ∷ cs) = score_of scheme reference c + total_score scheme reference cs
+unfoldable pub total_score : List ℕ → List (List Variant) → ℕ
+total_score reference [] = 0
+total_score reference (c ∷ cs) = score_of reference c + total_score reference cs

@@ -4,8 +4,6 @@ use Rattle.std.specs.Prelude.{true, false, List, [], ◌∷◌, ◌++◌, ℕ, �
 use Rattle.bases.specs.Pick.{pick}
 use Rattle.donors.specs.declared.table.Allele.{Allele}
 use Rattle.donors.specs.declared.table.Row.{Row}
-use Rattle.donors.specs.Items.{only}
-use Rattle.matching.specs.Scheme.{counted?}
 use Rattle.vcf.specs.declared.entry.Entry.{Entry}
 use Rattle.clusters.specs.declared.item.Item.{Item}
 use Rattle.clusters.specs.Item.{named, start_of, takes_room?, len_of}
@@ -19,19 +17,15 @@ stand_of e k = record {
   len = len_of e k;
 }
 
--- What an entry counts: its weight, in a list that the scheme counts.
-abbrev pub counted_weight : ℕ → Item → ℕ
-counted_weight scheme i = only (counted? scheme i.side) i.entry.weight
-
--- The row of an entry, with the weight that counts.
-abbrev pub row_of : ℕ → Item → Row
-row_of scheme i =
+-- The row of an entry: it counts 1.
+abbrev pub row_of : Item → Row
+row_of i =
     let e = i.entry in
     record {
       first = i.side;
       start = (start_of e).0;
       len = e.reference.len;
-      weight = counted_weight scheme i;
+      weight = 1;
       copy0 = stand_of e e.copy0;
       copy1 = stand_of e e.copy1;
     }
@@ -47,8 +41,8 @@ pub record Small (r : Row) : Type 0 where
   pub len1 : r.copy1.len < 2 ^ 32
 
 -- The same of an entry's row; and there is a POS.
-abbrev pub SmallEntry : ℕ → Item → Type 0
-SmallEntry scheme i = (1 ≤ i.entry.pos.0) × Small (row_of scheme i)
+abbrev pub SmallEntry : Item → Type 0
+SmallEntry i = (1 ≤ i.entry.pos.0) × Small (row_of i)
 
 -- The first number of an allele: 2 where it takes its entry's span, and 1 more where its bytes stand in the text.
 abbrev pub kind_of : Allele → ℕ
@@ -62,6 +56,6 @@ numbers_of r =
     ∷ kind_of r.copy1 ∷ r.copy1.at ∷ r.copy1.len ∷ []
 
 -- Entries as a table, row behind row.
-unfoldable pub table_of : ℕ → List Item → List ℕ
-table_of scheme [] = []
-table_of scheme (i ∷ is) = numbers_of (row_of scheme i) ++ table_of scheme is
+unfoldable pub table_of : List Item → List ℕ
+table_of [] = []
+table_of (i ∷ is) = numbers_of (row_of i) ++ table_of is

@@ -5,7 +5,6 @@ ghost use Rattle.bases.specs.Put.{put};
 ghost use Rattle.bases.specs.Reference.{longest_reference};
 ghost use Rattle.donors.specs.Table.{most};
 ghost use Rattle.clusters.specs.Heads.{Ready, start_heads, items_from, variants_from};
-ghost use Rattle.marks.specs.Counts.{most_entries};
 ghost use Rattle.marks.specs.Markable.{Markable};
 ghost use Rattle.marks.specs.Marks.{QUESTION, marks_of, marked_of, clusters_of, clusters_from, all_marks, total_score, asked_for};
 ghost use Rattle.marks.specs.Marks.{marks_after};
@@ -51,10 +50,8 @@ fn put_undecided(n: usize, marks: &mut [u8], at: usize)
     }
 }
 
-// Marks the next `count` entries, which are a cluster, from entry `at` on, under a scheme. `table` is room for the search: what is left
-// there is not told.
+// Marks the next `count` entries, which are a cluster, from entry `at` on. `table` is room for the search: what is left there is not told.
 fn mark_cluster(
-    scheme: u32,
     reference: &[u8],
     first: &[u8],
     second: &[u8],
@@ -68,11 +65,11 @@ fn mark_cluster(
         × (1 ≤ count)
         × (count ≤ length (items_from first.now second.now heads))
         × (at + count ≤ length marks.old) }
-    ensures { (result ≡ marked_of scheme (bases_of reference.now)
+    ensures { (result ≡ marked_of (bases_of reference.now)
         (take count (variants_from (bases_of reference.now) first.now second.now heads)))
         × (marks.new
         ≡ put marks.old
-        at (marks_of scheme (bases_of reference.now)
+        at (marks_of (bases_of reference.now)
         (take count (variants_from (bases_of reference.now) first.now second.now heads)))) }
 {
     if MOST < count {
@@ -83,7 +80,7 @@ fn mark_cluster(
             score: 0,
         };
     }
-    put_rows(scheme, first, second, heads, count, table);
+    put_rows(first, second, heads, count, table);
     let best = best_choices(reference, first, second, table, count);
     let choices = best.choices;
     put_choices(choices, count, marks, at);
@@ -96,7 +93,6 @@ fn mark_cluster(
 
 // Marks every entry from the cursors on, and sums the score over the decided clusters. `table` is room for the search, as above.
 fn mark_from(
-    scheme: u32,
     reference: &[u8],
     first: &[u8],
     second: &[u8],
@@ -105,13 +101,12 @@ fn mark_from(
     marks: &mut [u8],
 ) -> usize
     requires { Markable (bases_of reference.now) first.now second.now from
-        × (length (items_from first.now second.now from) ≤ length marks.old)
-        × (length (items_from first.now second.now from) ≤ most_entries) }
-    ensures { (result ≡ total_score scheme (bases_of reference.now)
+        × (length (items_from first.now second.now from) ≤ length marks.old) }
+    ensures { (result ≡ total_score (bases_of reference.now)
         (clusters_from (bases_of reference.now) first.now second.now from))
         × (marks.new
         ≡ put marks.old 0
-        (all_marks scheme (bases_of reference.now)
+        (all_marks (bases_of reference.now)
         (clusters_from (bases_of reference.now) first.now second.now from))) }
 {
     let mut heads = from;
@@ -120,7 +115,6 @@ fn mark_from(
     while !is_done(first, second, heads) {
         let found = next_cluster(reference, first, second, heads);
         let marked = mark_cluster(
-            scheme,
             reference,
             first,
             second,
@@ -138,32 +132,24 @@ fn mark_from(
 }
 
 // Marks every entry of two accepted lists, and sums the score over the decided clusters.
-pub fn mark_every(
-    scheme: u32,
-    reference: &[u8],
-    first: &[u8],
-    second: &[u8],
-    marks: &mut [u8],
-) -> usize
+pub fn mark_every(reference: &[u8], first: &[u8], second: &[u8], marks: &mut [u8]) -> usize
     requires { Ready (bases_of reference.now) first.now second.now (start_heads first.now second.now)
         × (length (bases_of reference.now) ≤ longest_reference)
-        × (length (merged_items first.now second.now) ≤ length marks.old)
-        × (length (merged_items first.now second.now) ≤ most_entries) }
-    ensures { (result ≡ total_score scheme (bases_of reference.now)
+        × (length (merged_items first.now second.now) ≤ length marks.old) }
+    ensures { (result ≡ total_score (bases_of reference.now)
         (clusters_of (bases_of reference.now) first.now second.now))
         × (marks.new
         ≡ put marks.old 0
-        (all_marks scheme (bases_of reference.now)
+        (all_marks (bases_of reference.now)
         (clusters_of (bases_of reference.now) first.now second.now))) }
 {
     let heads = start_heads(first, second);
     let mut table = [0u32; TABLE];
-    mark_from(scheme, reference, first, second, heads, &mut table, marks)
+    mark_from(reference, first, second, heads, &mut table, marks)
 }
 
 // Marks the entries of one cluster of two accepted lists. Where there is no such cluster it says so, and nothing is written.
 pub fn mark_one(
-    scheme: u32,
     reference: &[u8],
     first: &[u8],
     second: &[u8],
@@ -173,10 +159,10 @@ pub fn mark_one(
     requires { Ready (bases_of reference.now) first.now second.now (start_heads first.now second.now)
         × (length (bases_of reference.now) ≤ longest_reference)
         × (length (merged_items first.now second.now) ≤ length marks.old) }
-    ensures { (result ≡ asked_for scheme (bases_of reference.now)
+    ensures { (result ≡ asked_for (bases_of reference.now)
         (clusters_of (bases_of reference.now) first.now second.now) cluster)
         × (marks.new
-        ≡ marks_after scheme (bases_of reference.now)
+        ≡ marks_after (bases_of reference.now)
         (clusters_of (bases_of reference.now) first.now second.now) cluster
         marks.old) }
 {
@@ -192,7 +178,6 @@ pub fn mark_one(
     let found = next_cluster(reference, first, second, heads);
     let mut table = [0u32; TABLE];
     mark_cluster(
-        scheme,
         reference,
         first,
         second,

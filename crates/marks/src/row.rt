@@ -5,13 +5,12 @@ ghost use Rattle.donors.specs.Apart.{All};
 ghost use Rattle.donors.specs.Table.{width, most};
 ghost use Rattle.clusters.specs.Heads.{Readable, items_from};
 ghost use Rattle.clusters.specs.Item.{start_of};
-ghost use Rattle.marks.specs.Row.{stand_of, counted_weight, row_of, Small, SmallEntry, kind_of, numbers_of, table_of};
+ghost use Rattle.marks.specs.Row.{stand_of, row_of, Small, SmallEntry, kind_of, numbers_of, table_of};
 
 use bases::place::{Place, place_of};
 use clusters::heads::{Heads, after, next_item};
 use clusters::item::Item;
 use donors::table::{Allele, Row, TABLE, WIDTH};
-use matching::scheme::is_counted;
 use vcf::entry::Entry;
 
 // Where the bytes of allele k stand, of an entry that starts at `start`. An ALT takes its entry's span, REF takes no room.
@@ -37,21 +36,10 @@ fn stand_of(entry: Entry, start: Place, k: usize) -> Allele
     }
 }
 
-// What an entry counts: its weight, in a list that the scheme counts.
-fn counted_weight(scheme: u32, item: Item) -> usize
-    ensures { result ≡ counted_weight scheme item }
-{
-    if !is_counted(scheme, item.side) {
-        return 0;
-    }
-    let entry = item.entry;
-    entry.weight
-}
-
-// The row of an entry, with the weight that counts. Its POS is not 0.
-fn row_of(scheme: u32, item: Item) -> Row
+// The row of an entry, which counts 1. Its POS is not 0.
+fn row_of(item: Item) -> Row
     requires { 1 ≤ item.entry.pos.0 }
-    ensures { result ≡ row_of scheme item }
+    ensures { result ≡ row_of item }
 {
     let entry = item.entry;
     let pos = entry.pos;
@@ -61,7 +49,7 @@ fn row_of(scheme: u32, item: Item) -> Row
         first: item.side,
         start: start.0,
         len: bases.len,
-        weight: counted_weight(scheme, item),
+        weight: 1,
         copy0: stand_of(entry, start, entry.copy0),
         copy1: stand_of(entry, start, entry.copy1),
     }
@@ -122,27 +110,19 @@ fn put_row(table: &mut [u32], i: usize, row: Row)
     }
 }
 
-// Writes the next `count` entries as the first rows of the table, with the weights that count. Their numbers are small enough for it.
-pub fn put_rows(
-    scheme: u32,
-    first: &[u8],
-    second: &[u8],
-    heads: Heads,
-    count: usize,
-    table: &mut [u32; TABLE],
-)
+// Writes the next `count` entries as the first rows of the table. Their numbers are small enough for it.
+pub fn put_rows(first: &[u8], second: &[u8], heads: Heads, count: usize, table: &mut [u32; TABLE])
     requires { Readable first.now second.now heads
         × (count ≤ length (items_from first.now second.now heads))
         × (count ≤ most)
-        × All (SmallEntry scheme) (take count (items_from first.now second.now heads)) }
-    ensures { table.new
-        ≡ put table.old 0 (table_of scheme (take count (items_from first.now second.now heads))) }
+        × All SmallEntry (take count (items_from first.now second.now heads)) }
+    ensures { table.new ≡ put table.old 0 (table_of (take count (items_from first.now second.now heads))) }
 {
     let mut at = heads;
     let mut i: usize = 0;
     while i < count {
         let item = next_item(first, second, at);
-        put_row(table, i, row_of(scheme, item));
+        put_row(table, i, row_of(item));
         at = after(first, second, at, item.side);
         i += 1;
     }

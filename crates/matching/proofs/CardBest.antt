@@ -1,9 +1,9 @@
 -- The card's own best pair: the general theorems at the card's rules and score.
 --     rank_words        `+` ranks before `-`, and `-` before `0`
---     score_words       the score is the sum of the weights chosen in the lists that the scheme counts
+--     score_words       the score is the number of chosen entries in both lists
 --     all_allowed       every choice is allowed
 --     legal_words       a legal pair is what document 01 and request c say, for entries in merged order
---     best_words        and so is the best pair, under every scheme
+--     best_words        and so is the best pair, where each of them counts 1
 --     card_best_lem         card_best is that best pair, and the only one
 --     card_split        at a cut, choices are together legal, and together best, exactly if each side is
 --     card_clusters     over any clusters cut where they may be, the best pair is the clusters' best pairs, joined
@@ -16,16 +16,15 @@ use mathlib.Core.Path.{◌≡◌, refl, subst, fun_ext}
 use Prim.Native.Nat.{ℕ, ◌+◌, ◌<◌}
 use native.Mathlib.Omega.{arith}
 use lib.ListN.{length}
-use Rattle.bases.specs.Pick.{pick}
-use Rattle.donors.specs.Choice.{Choice, plus, minus, out, Copy, copy0, copy1, Variant, chosen?, card_rules, those, chosen_of}
-use Rattle.donors.specs.Items.{only, Sorted, Solid}
+use Rattle.donors.specs.Apart.{All}
+use Rattle.donors.specs.Choice.{Choice, plus, minus, out, Copy, copy0, copy1, Variant, Plain, chosen?, card_rules, those, chosen_of}
+use Rattle.donors.specs.Items.{Sorted, Solid}
 use Rattle.donors.specs.Rules.{list1, list2, put_if, donor_of, Allowed}
 use Rattle.donors.proofs.ChoiceLaws.{card_apart}
 use Rattle.matching.specs.Best.{Best, score, IsBest}
-use Rattle.matching.specs.Card.{rank_of, card_scoring, card_finite, card_best, LegalPair, weights, chosen_weight, BestPair}
+use Rattle.matching.specs.Card.{counts, rank_of, card_scoring, card_finite, card_best, LegalPair, chosen_count, BestPair}
 use Rattle.matching.specs.Cut.{join, Cut, Cuts, EachBest, chop}
 use Rattle.matching.specs.Legal.{Legal}
-use Rattle.matching.specs.Scheme.{counted?}
 use Rattle.matching.proofs.BestOfLaws.{best_one, best_there}
 use Rattle.matching.proofs.ClusterLaws.{cuts_chop, best_clusters}
 use Rattle.matching.proofs.CutLaws.{legal_split, best_split}
@@ -33,33 +32,20 @@ use Rattle.matching.proofs.CutLaws.{legal_split, best_split}
 pub rank_words : (rank_of plus < rank_of minus) × (rank_of minus < rank_of out)
 rank_words = omega arith
 
-only_plus : (t : Bool) (m n : ℕ) → only t (m + n) ≡ only t m + only t n
-only_plus true m n = refl
-only_plus false m n = refl
+counts_put : (s : Bool) (c : Choice) (x : Variant) (us vs : List Variant) → x.weight ≡ 1
+    → length (put_if (beq list1 s && chosen? c) x us) + length (put_if (beq list2 s && chosen? c) x vs) ≡ counts x c + (length us + length vs)
+counts_put true plus x us vs e = omega arith
+counts_put true minus x us vs e = omega arith
+counts_put true out x us vs e = omega arith
+counts_put false plus x us vs e = omega arith
+counts_put false minus x us vs e = omega arith
+counts_put false out x us vs e = omega arith
 
--- one entry more, of list j with this choice, adds what it counts; f says which lists are counted
-counts_put : (f : Bool → Bool) (j : Bool) (c : Choice) (x : Variant) (us vs : List Variant)
-    → only (f list1) (weights (put_if (beq list1 j && chosen? c) x us)) + only (f list2) (weights (put_if (beq list2 j && chosen? c) x vs))
-    ≡ pick (chosen? c) (only (f j) x.weight) 0 + (only (f list1) (weights us) + only (f list2) (weights vs))
-unfolding weights
-counts_put f true plus x us vs = omega (arith, only_plus (f list1) x.weight (weights us))
-counts_put f true minus x us vs = omega (arith, only_plus (f list1) x.weight (weights us))
-counts_put f true out x us vs = omega arith
-counts_put f false plus x us vs = omega (arith, only_plus (f list2) x.weight (weights vs))
-counts_put f false minus x us vs = omega (arith, only_plus (f list2) x.weight (weights vs))
-counts_put f false out x us vs = omega arith
-
-none : (t u : Bool) → 0 ≡ only t 0 + only u 0
-none true true = refl
-none true false = refl
-none false true = refl
-none false false = refl
-
-pub score_words : (s : ℕ) (xs : List Variant) (φ : List Choice) → score (card_scoring s) xs φ ≡ chosen_weight s xs φ
-unfolding score those weights
-score_words s [] φ = none (counted? s list1) (counted? s list2)
-score_words s (x ∷ xs) [] = none (counted? s list1) (counted? s list2)
-score_words s (x ∷ xs) (c ∷ φ) = omega (arith, counts_put (counted? s) x.side c x (chosen_of list1 xs φ) (chosen_of list2 xs φ), score_words s xs φ)
+pub score_words : (xs : List Variant) → All Plain xs → (φ : List Choice) → score card_scoring xs φ ≡ chosen_count xs φ
+unfolding score those
+score_words [] p φ = refl
+score_words (x ∷ xs) p [] = refl
+score_words (x ∷ xs) p (c ∷ φ) = omega (arith, counts_put x.side c x (chosen_of list1 xs φ) (chosen_of list2 xs φ) p.0.weight, score_words xs p.1 φ)
 
 pub all_allowed : (xs : List Variant) (φ : List Choice) → Allowed card_rules xs φ
 all_allowed [] φ = tt
@@ -77,32 +63,31 @@ module _ (R : List ℕ) (xs : List Variant) (solid : Solid card_rules xs) (sorte
       same g copy0 = g.same0
       same g copy1 = g.same1
 
-module _ (s : ℕ) (R : List ℕ) (xs : List Variant) (solid : Solid card_rules xs) (sorted : Sorted card_rules xs) where
+module _ (R : List ℕ) (xs : List Variant) (plain : All Plain xs) (solid : Solid card_rules xs) (sorted : Sorted card_rules xs) where
   words : (φ : List Choice) → Legal card_rules R xs φ ↔ LegalPair R xs φ
   words = legal_words R xs solid sorted
 
-  pub best_words : (φ : List Choice) → IsBest card_rules (card_scoring s) R xs φ ↔ BestPair s R xs φ
+  pub best_words : (φ : List Choice) → IsBest card_rules card_scoring R xs φ ↔ BestPair R xs φ
   best_words φ =
-      let e : score (card_scoring s) xs ≡ chosen_weight s xs = fun_ext (score_words s xs) in
-      subst (λ (f : List Choice → ℕ). IsBest card_rules (card_scoring s) R xs φ ↔ Best rank_of (LegalPair R xs) f φ) e (
+      let e : score card_scoring xs ≡ chosen_count xs = fun_ext (score_words xs plain) in
+      subst (λ (s : List Choice → ℕ). IsBest card_rules card_scoring R xs φ ↔ Best rank_of (LegalPair R xs) s φ) e (
         λ b. record { legal = (words φ).0 b.legal; top = λ ψ g. b.top ψ ((words ψ).1 g) },
         λ b. record { legal = (words φ).1 b.legal; top = λ ψ g. b.top ψ ((words ψ).0 g) },
       )
 
-  pub card_best_lem : BestPair s R xs (card_best s R xs) × ((φ : List Choice) → BestPair s R xs φ → φ ≡ card_best s R xs)
+  pub card_best_lem : BestPair R xs (card_best R xs) × ((φ : List Choice) → BestPair R xs φ → φ ≡ card_best R xs)
   card_best_lem =
-      let b = best_there card_rules (card_scoring s) R xs card_finite in
-      ((best_words (card_best s R xs)).0 b, λ φ h. best_one card_rules (card_scoring s) R xs φ (card_best s R xs) ((best_words φ).1 h) b)
+      let b = best_there card_rules card_scoring R xs card_finite in
+      ((best_words (card_best R xs)).0 b, λ φ h. best_one card_rules card_scoring R xs φ (card_best R xs) ((best_words φ).1 h) b)
 
-module _ (s : ℕ) (R : List ℕ) where
-  pub card_split : (xs ys : List Variant) → Cut card_rules R xs ys → (φ ψ : List Choice) → length φ ≡ length xs
-      → (Legal card_rules R (xs ++ ys) (φ ++ ψ) ↔ (Legal card_rules R xs φ × Legal card_rules R ys ψ))
-      × (IsBest card_rules (card_scoring s) R (xs ++ ys) (φ ++ ψ) ↔ (IsBest card_rules (card_scoring s) R xs φ × IsBest card_rules (card_scoring s) R ys ψ))
-  card_split xs ys k φ ψ l = (legal_split card_rules R xs ys k φ ψ l, best_split card_rules (card_scoring s) R xs ys k φ ψ l)
+pub card_split : (R : List ℕ) (xs ys : List Variant) → Cut card_rules R xs ys → (φ ψ : List Choice) → length φ ≡ length xs
+    → (Legal card_rules R (xs ++ ys) (φ ++ ψ) ↔ (Legal card_rules R xs φ × Legal card_rules R ys ψ))
+    × (IsBest card_rules card_scoring R (xs ++ ys) (φ ++ ψ) ↔ (IsBest card_rules card_scoring R xs φ × IsBest card_rules card_scoring R ys ψ))
+card_split R xs ys k φ ψ l = (legal_split card_rules R xs ys k φ ψ l, best_split card_rules card_scoring R xs ys k φ ψ l)
 
-  pub card_clusters : (cs : List (List Variant)) → Cuts card_rules R cs → card_best s R (join cs) ≡ join (map (card_best s R) cs)
-  card_clusters cs k = best_clusters card_rules (card_scoring s) R card_finite cs k
+pub card_clusters : (R : List ℕ) (cs : List (List Variant)) → Cuts card_rules R cs → card_best R (join cs) ≡ join (map (card_best R) cs)
+card_clusters R cs k = best_clusters card_rules card_scoring R card_finite cs k
 
-  pub card_chop : (cs : List (List Variant)) (φ : List Choice) → Cuts card_rules R cs → length φ ≡ length (join cs)
-      → IsBest card_rules (card_scoring s) R (join cs) φ ↔ EachBest card_rules R (card_scoring s) cs (chop cs φ)
-  card_chop cs φ k l = cuts_chop card_rules (card_scoring s) R cs φ k l
+pub card_chop : (R : List ℕ) (cs : List (List Variant)) (φ : List Choice) → Cuts card_rules R cs → length φ ≡ length (join cs)
+    → IsBest card_rules card_scoring R (join cs) φ ↔ EachBest card_rules R card_scoring cs (chop cs φ)
+card_chop R cs φ k l = cuts_chop card_rules card_scoring R cs φ k l

@@ -10,10 +10,6 @@ use Rattle.matching.proofs.fits.fits.Kinds as fits-kinds
 use Rattle.matching.proofs.fits.fits.Reads as fits
 use Rattle.matching.proofs.fits.is_tried.Kinds as is-tried-kinds
 use Rattle.matching.proofs.fits.is_tried.Reads as is-tried
-use Rattle.matching.proofs.scheme.is_counted.Kinds as is-counted-kinds
-use Rattle.matching.proofs.scheme.is_counted.Reads as is-counted
-use Rattle.matching.proofs.scheme.is_scheme.Kinds as is-scheme-kinds
-use Rattle.matching.proofs.scheme.is_scheme.Reads as is-scheme
 use Rattle.matching.proofs.search.best_choices.Kinds as best-choices-kinds
 use Rattle.matching.proofs.search.best_choices.Reads as best-choices
 
@@ -31,9 +27,3 @@ is_tried_determines κs a z z' e e' p q = p ∙ sym q
 
 pub best_choices_determines : OneResult 4 best-choices-kinds.ps best-choices-kinds.r best-choices.Post
 best_choices_determines κs a z z' e e' p q = p ∙ sym q
-
-pub is_scheme_determines : OneResult 0 is-scheme-kinds.ps is-scheme-kinds.r is-scheme.Post
-is_scheme_determines κs a z z' e e' p q = p ∙ sym q
-
-pub is_counted_determines : OneResult 0 is-counted-kinds.ps is-counted-kinds.r is-counted.Post
-is_counted_determines κs a z z' e e' p q = p ∙ sym q

@@ -1,4 +1,4 @@
--- The documents' examples of marks, as card_best computes them: document 01's 1, 6 to 12, and those of requests c and e, in one table.
+-- The documents' examples of marks, as card_best computes them: document 01's 1, 6 to 12, and request c's, in one table.
 -- Assumes nothing.
 use mathlib.Core.Bool.{Bool, not}
 use mathlib.Core.List.{List, [], ◌∷◌, ◌++◌}
@@ -13,7 +13,6 @@ use Rattle.donors.specs.Rules.{list1, list2, edits}
 use Rattle.matching.specs.Best.{score}
 use Rattle.matching.specs.BestOf.{every?, allowed?, best_of}
 use Rattle.matching.specs.Card.{card_best}
-use Rattle.matching.specs.Scheme.{both_lists, list1_only, list2_only}
 use Rattle.matching.specs.Search.{first?, better, best_over, search}
 
 -- The letters.
@@ -46,73 +45,40 @@ entry j pos ref a b = record {
 abbrev hom : Bool → ℕ → List ℕ → List ℕ → Variant
 hom j pos ref alt = entry j pos ref alt alt
 
--- The same entry with another weight.
-abbrev weighing : ℕ → Variant → Variant
-weighing w x = record {
-  side = x.side;
-  start = x.start;
-  len = x.len;
-  weight = w;
-  room0 = x.room0;
-  allele0 = x.allele0;
-  room1 = x.room1;
-  allele1 = x.allele1;
-}
-
--- A row: the scheme, the reference, the entries in merged order, and their marks.
+-- A row: the reference, the entries in merged order, and their marks.
 pub record Row : Type 0 where
-  pub scheme : ℕ
   pub reference : List ℕ
   pub entries : List Variant
   pub marks : List Choice
-
--- Two SNVs at one place in each list, of which the second of list 1 weighs 5.
-abbrev two_snvs_lem : ℕ → List Choice → Row
-two_snvs_lem scheme marks = record {
-  scheme = scheme;
-  reference = G ∷ A ∷ C ∷ [];
-  entries =
-      hom list1 2 (A ∷ []) (C ∷ [])
-      ∷ weighing 5 (hom list1 2 (A ∷ []) (T ∷ []))
-      ∷ hom list2 2 (A ∷ []) (C ∷ [])
-      ∷ hom list2 2 (A ∷ []) (T ∷ [])
-      ∷ [];
-  marks = marks;
-}
 
 abbrev pub table : List Row
 table =
     -- 1
     record {
-      scheme = both_lists;
       reference = G ∷ C ∷ A ∷ T ∷ A ∷ T ∷ G ∷ [];
       entries = hom list1 2 (C ∷ A ∷ T ∷ []) (C ∷ []) ∷ hom list2 4 (T ∷ A ∷ T ∷ []) (T ∷ []) ∷ [];
       marks = plus ∷ plus ∷ [];
     }
     -- 6
     ∷ record {
-      scheme = both_lists;
       reference = G ∷ C ∷ A ∷ T ∷ A ∷ T ∷ A ∷ T ∷ A ∷ T ∷ G ∷ [];
       entries = hom list1 2 (C ∷ A ∷ T ∷ []) (C ∷ []) ∷ hom list2 8 (T ∷ A ∷ T ∷ []) (T ∷ []) ∷ [];
       marks = plus ∷ plus ∷ [];
     }
     -- 7
     ∷ record {
-      scheme = both_lists;
       reference = T ∷ A ∷ T ∷ G ∷ C ∷ A ∷ G ∷ T ∷ [];
       entries = hom list1 1 (T ∷ A ∷ T ∷ []) (T ∷ []) ∷ hom list2 7 (G ∷ []) (C ∷ []) ∷ [];
       marks = out ∷ out ∷ [];
     }
     -- 8
     ∷ record {
-      scheme = both_lists;
       reference = T ∷ A ∷ T ∷ G ∷ C ∷ G ∷ T ∷ [];
       entries = hom list1 1 (T ∷ A ∷ T ∷ []) (T ∷ []) ∷ hom list2 6 (G ∷ []) (C ∷ []) ∷ [];
       marks = out ∷ out ∷ [];
     }
     -- 9
     ∷ record {
-      scheme = both_lists;
       reference = T ∷ G ∷ C ∷ C ∷ G ∷ T ∷ [];
       entries =
           hom list2 1 (T ∷ G ∷ []) (T ∷ [])
@@ -123,34 +89,29 @@ table =
     }
     -- 10: 0/1 against 1/0, then 0/1 against 1/1
     ∷ record {
-      scheme = both_lists;
       reference = G ∷ A ∷ C ∷ [];
       entries = entry list1 2 (A ∷ []) (A ∷ []) (C ∷ []) ∷ entry list2 2 (A ∷ []) (C ∷ []) (A ∷ []) ∷ [];
       marks = plus ∷ minus ∷ [];
     }
     ∷ record {
-      scheme = both_lists;
       reference = G ∷ A ∷ C ∷ [];
       entries = entry list1 2 (A ∷ []) (A ∷ []) (C ∷ []) ∷ hom list2 2 (A ∷ []) (C ∷ []) ∷ [];
       marks = out ∷ out ∷ [];
     }
     -- 11
     ∷ record {
-      scheme = both_lists;
       reference = G ∷ A ∷ A ∷ C ∷ [];
       entries = hom list1 1 (G ∷ []) (G ∷ A ∷ []) ∷ hom list1 2 (A ∷ A ∷ []) (A ∷ []) ∷ [];
       marks = plus ∷ plus ∷ [];
     }
     -- 12, six and six
     ∷ record {
-      scheme = both_lists;
       reference = G ∷ A ∷ C ∷ [];
       entries = replicate 6 (hom list1 2 (A ∷ []) (C ∷ [])) ++ replicate 6 (hom list2 2 (A ∷ []) (C ∷ []));
       marks = (plus ∷ replicate 5 out) ++ (plus ∷ replicate 5 out);
     }
     -- c: a deletion 0/1 and a SNV under it 1/0, against one entry 1/2 that spells both
     ∷ record {
-      scheme = both_lists;
       reference = G ∷ A ∷ C ∷ T ∷ C ∷ [];
       entries =
           entry list1 2 (A ∷ C ∷ T ∷ []) (A ∷ C ∷ T ∷ []) (A ∷ [])
@@ -161,30 +122,17 @@ table =
     }
     -- c: two het duplicates, against one homozygous entry and against one het entry
     ∷ record {
-      scheme = both_lists;
       reference = G ∷ A ∷ C ∷ [];
       entries = replicate 2 (entry list1 2 (A ∷ []) (A ∷ []) (C ∷ [])) ++ (hom list2 2 (A ∷ []) (C ∷ []) ∷ []);
       marks = plus ∷ minus ∷ plus ∷ [];
     }
     ∷ record {
-      scheme = both_lists;
       reference = G ∷ A ∷ C ∷ [];
       entries = replicate 2 (entry list1 2 (A ∷ []) (A ∷ []) (C ∷ [])) ++ (entry list2 2 (A ∷ []) (A ∷ []) (C ∷ []) ∷ []);
       marks = plus ∷ out ∷ plus ∷ [];
     }
-    -- e: two SNVs at one place in each list; the first list's second weighs 5, and each other entry 1
-    ∷ two_snvs_lem both_lists (out ∷ plus ∷ out ∷ plus ∷ [])
-    ∷ two_snvs_lem list1_only (out ∷ plus ∷ out ∷ plus ∷ [])
-    ∷ two_snvs_lem list2_only (plus ∷ out ∷ plus ∷ out ∷ [])
-    -- e: an entry of weight 0 is still chosen where that comes first
-    ∷ record {
-      scheme = both_lists;
-      reference = G ∷ A ∷ C ∷ [];
-      entries = weighing 0 (hom list1 2 (A ∷ []) (C ∷ [])) ∷ weighing 0 (hom list2 2 (A ∷ []) (C ∷ [])) ∷ [];
-      marks = plus ∷ plus ∷ [];
-    }
     ∷ []
 
-pub examples : All (λ (r : Row). card_best r.scheme r.reference r.entries ≡ r.marks) table
+pub examples : All (λ (r : Row). card_best r.reference r.entries ≡ r.marks) table
 unfolding agree? chain? donor_from edits score every? allowed? best_of first? better best_over search
-examples = (refl, (refl, (refl, (refl, (refl, (refl, (refl, (refl, (refl, (refl, (refl, (refl, (refl, (refl, (refl, (refl, tt))))))))))))))))
+examples = (refl, (refl, (refl, (refl, (refl, (refl, (refl, (refl, (refl, (refl, (refl, (refl, tt))))))))))))

@@ -20,7 +20,7 @@ use Rattle.donors.specs.Choice.{Choice, Variant}
 use Rattle.matching.specs.declared.answer.Best.{Best}
 use Rattle.matching.specs.Answer.{nothing_found, these_choices, answer_of, can_beat?, improved}
 use Rattle.matching.specs.Best.{First, score}
-use Rattle.matching.specs.Card.{rank_of, row_scoring}
+use Rattle.matching.specs.Card.{rank_of, card_scoring}
 use Rattle.matching.specs.Search.{first?, better}
 use Rattle.matching.proofs.OrderLaws.{Tri, tri, first_iff}
 use Rattle.matching.proofs.TopLaws.{Of}
@@ -64,17 +64,17 @@ pub improved_three : (b x y z : Best) → improved b (improved x (improved y z))
 improved_three b x y z = sym (improved_assoc b x (improved y z)) ∙ sym (improved_assoc (improved b x) y z)
 
 pub better_improved : (xs : List Variant) (o p : Option (List Choice)) → Of (λ (φ : List Choice). Of (First rank_of φ) p) o
-    → answer_of xs (better rank_of (score row_scoring xs) o p) ≡ improved (answer_of xs o) (answer_of xs p)
+    → answer_of xs (better rank_of (score card_scoring xs) o p) ≡ improved (answer_of xs o) (answer_of xs p)
 unfolding better
 better_improved xs none p a = sym (nothing_improved xs p)
 better_improved xs (some φ) none a = refl
-better_improved xs (some φ) (some ψ) a = go (tri (score row_scoring xs ψ) (score row_scoring xs φ))
+better_improved xs (some φ) (some ψ) a = go (tri (score card_scoring xs ψ) (score card_scoring xs φ))
   where
     s : List Choice → ℕ
-    s = score row_scoring xs
+    s = score card_scoring xs
 
-    go : Tri (score row_scoring xs ψ) (score row_scoring xs φ)
-        → answer_of xs (better rank_of (score row_scoring xs) (some φ) (some ψ)) ≡ improved (these_choices xs φ) (these_choices xs ψ)
+    go : Tri (score card_scoring xs ψ) (score card_scoring xs φ)
+        → answer_of xs (better rank_of (score card_scoring xs) (some φ) (some ψ)) ≡ improved (these_choices xs φ) (these_choices xs ψ)
     go (inl b) = rw (lt-ltb (s ψ) (s φ) b, le-ltb (s φ) (s ψ) (omega arith))
     go (inr (inl b)) =
         rw (le-ltb (s ψ) (s φ) (omega arith), eq-eqb (s ψ) (s φ) b, is_true (first? rank_of φ ψ) ((first_iff rank_of φ ψ).1 a), le-ltb (s φ) (s ψ) (omega arith))

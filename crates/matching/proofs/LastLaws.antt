@@ -16,8 +16,8 @@ use Rattle.donors.specs.Table.{choices_from}
 use Rattle.matching.specs.declared.answer.Best.{Best}
 use Rattle.matching.specs.Answer.{answer_of, can_beat?, improved}
 use Rattle.matching.specs.Best.{score}
-use Rattle.matching.specs.Card.{row_scoring, weights}
-use Rattle.matching.specs.Made.{Kept, card_legal?, answer_from}
+use Rattle.matching.specs.Card.{card_scoring}
+use Rattle.matching.specs.Made.{Kept, card_legal?, answer_from, weights}
 use Rattle.matching.proofs.AnswerLaws.{choices_length}
 use Rattle.matching.proofs.EntryLaws.{entries, entries_length, legal_not, legal_all}
 use Rattle.matching.proofs.KeepLaws.{keep_words}
@@ -50,7 +50,7 @@ module _ {reference first second t choices : List ℕ} {top n left : ℕ} (m : C
       ap (λ (k : ℕ). answer_from reference all k φ) none_left ∙ ap (answer_of all) (search_stop reference all φ)
       ∙ ap (λ (v : Bool). answer_of all (cond v (some φ) none)) (ap (λ (k : ℕ). card_legal? reference all (choices_from choices 0 k)) whole ∙ h)
 
-  counted : top ≡ score row_scoring all φ
+  counted : top ≡ score card_scoring all φ
   unfolding weights
   counted =
       let h : length all ≤ length φ = omega (arith, choices_length choices 0 (n - left), entries_length reference first second t 0 n) in

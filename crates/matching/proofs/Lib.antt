@@ -4,7 +4,6 @@ pub mod BestLaws
 pub mod BestOfLaws
 pub mod CardBest
 pub mod ClusterLaws
-pub mod CountedLaws
 pub mod CutLaws
 pub mod Determines
 pub mod EntryLaws
@@ -18,7 +17,6 @@ pub mod LegalLaws
 pub mod MadeLaws
 pub mod MidwayLaws
 pub mod OrderLaws
-pub mod SchemeLaws
 pub mod ScoreLaws
 pub mod SearchLaws
 pub mod StepLaws

@@ -19,9 +19,8 @@ use Rattle.donors.specs.Rules.{edits}
 use Rattle.donors.specs.Table.{most, variants_from, choices_from}
 use Rattle.matching.specs.Answer.{byte_of, array_of}
 use Rattle.matching.specs.Best.{score}
-use Rattle.matching.specs.Card.{counts, row_scoring, weights}
-use Rattle.matching.specs.Made.{Kept, Made}
-use Rattle.matching.specs.Scheme.{both_lists}
+use Rattle.matching.specs.Card.{counts, card_scoring}
+use Rattle.matching.specs.Made.{Kept, Made, weights}
 use Rattle.matching.proofs.AnswerLaws.{array_choices, array_more, array_out, array_back}
 use Rattle.matching.proofs.CutLaws.{score_append}
 use Rattle.matching.proofs.KeepLaws.{keep_words}
@@ -31,7 +30,7 @@ unfolding edits
 edits_none j h [] = refl
 edits_none j h (x ∷ xs) = refl
 
-score_none : (xs : List Variant) → score row_scoring xs [] ≡ 0
+score_none : (xs : List Variant) → score card_scoring xs [] ≡ 0
 unfolding score
 score_none [] = refl
 score_none (x ∷ xs) = refl
@@ -53,7 +52,7 @@ pub record Carried (reference first second t choices : List ℕ) (top n left : �
   pub enough : left ≤ n
   pub made : Made (variants_from reference first second t 0 n) (choices_from choices 0 (n - left)) choices top
 
-counts_all : (x : Variant) (c : Choice) → T (chosen? c) → counts both_lists x c ≡ x.weight
+counts_all : (x : Variant) (c : Choice) → T (chosen? c) → counts x c ≡ x.weight
 counts_all x plus t = refl
 counts_all x minus t = refl
 counts_all x out t = absurd t
@@ -63,11 +62,11 @@ module _ (us : List Variant) (x : Variant) (vs : List Variant) (φ : List Choice
   abbrev xs : List Variant
   xs = us ++ (x ∷ vs)
 
-  score_one : (c : Choice) → score row_scoring xs (φ ++ (c ∷ [])) ≡ score row_scoring xs φ + counts both_lists x c
+  score_one : (c : Choice) → score card_scoring xs (φ ++ (c ∷ [])) ≡ score card_scoring xs φ + counts x c
   unfolding score
   score_one c =
-      let a = score_append row_scoring us (x ∷ vs) φ (c ∷ []) l in
-      let b = score_append row_scoring us (x ∷ vs) φ [] l in
+      let a = score_append card_scoring us (x ∷ vs) φ (c ∷ []) l in
+      let b = score_append card_scoring us (x ∷ vs) φ [] l in
       omega (arith, a, rw (append-nil φ) at b, score_none vs)
 
   -- the entries left, before and after one more choice

@@ -17,14 +17,14 @@ use Rattle.matching.specs.declared.answer.Best.{Best}
 use Rattle.matching.specs.Answer.{nothing_found, answer_of, improved}
 use Rattle.matching.specs.Best.{First, score}
 use Rattle.matching.specs.BestOf.{keep?}
-use Rattle.matching.specs.Card.{rank_of, row_scoring, card_finite, weights}
-use Rattle.matching.specs.Made.{card_legal?, card_search, answer_from}
+use Rattle.matching.specs.Card.{rank_of, card_scoring, card_finite}
+use Rattle.matching.specs.Made.{card_legal?, card_search, answer_from, weights}
 use Rattle.matching.specs.Search.{better, best_over, search}
 use Rattle.matching.proofs.ImprovedLaws.{improved_three, better_improved}
 use Rattle.matching.proofs.ScoreLaws.{score_more}
 use Rattle.matching.proofs.TopLaws.{Of, of_both, cond_of, better_of, GoesOn, search_goes_on, goes_sooner}
 
-better_none : (xs : List Variant) (o : Option (List Choice)) → better rank_of (score row_scoring xs) o none ≡ o
+better_none : (xs : List Variant) (o : Option (List Choice)) → better rank_of (score card_scoring xs) o none ≡ o
 unfolding better
 better_none xs none = refl
 better_none xs (some φ) = refl
@@ -42,10 +42,10 @@ module _ (R : List ℕ) (xs : List Variant) where
   search_stop φ = refl
 
   search_step : (m : ℕ) (φ : List Choice)
-      → card_search R xs (suc m) φ ≡ better rank_of (score row_scoring xs) (kept_on m φ plus) (better rank_of (score row_scoring xs) (kept_on m φ minus) (kept_on m φ out))
+      → card_search R xs (suc m) φ ≡ better rank_of (score card_scoring xs) (kept_on m φ plus) (better rank_of (score card_scoring xs) (kept_on m φ minus) (kept_on m φ out))
   unfolding search best_over
   search_step m φ =
-      ap (λ (o : Option (List Choice)). better rank_of (score row_scoring xs) (kept_on m φ plus) (better rank_of (score row_scoring xs) (kept_on m φ minus) o)) (better_none xs (kept_on m φ out))
+      ap (λ (o : Option (List Choice)). better rank_of (score card_scoring xs) (kept_on m φ plus) (better rank_of (score card_scoring xs) (kept_on m φ minus) o)) (better_none xs (kept_on m φ out))
 
   pub below_kept : (m : ℕ) (φ : List Choice) (c : Choice) → keep? card_rules card_finite xs (φ ++ (c ∷ [])) ≡ true → below m φ c ≡ answer_from R xs m (φ ++ (c ∷ []))
   below_kept m φ c e = rw e
@@ -57,14 +57,14 @@ module _ (R : List ℕ) (xs : List Variant) where
   below_on m φ c =
       let θ = φ ++ (c ∷ []) in
       cond_of (GoesOn θ) (card_search R xs m θ) (keep? card_rules card_finite xs θ)
-      (search_goes_on rank_of (score row_scoring xs) card_finite.choices (keep? card_rules card_finite xs) (card_legal? R xs) m θ)
+      (search_goes_on rank_of (score card_scoring xs) card_finite.choices (keep? card_rules card_finite xs) (card_legal? R xs) m θ)
 
   pub below_most : (m : ℕ) (φ : List Choice) (c : Choice)
-      → (below m φ c).score ≤ score row_scoring xs (φ ++ (c ∷ [])) + weights (drop (length (φ ++ (c ∷ []))) xs)
+      → (below m φ c).score ≤ score card_scoring xs (φ ++ (c ∷ [])) + weights (drop (length (φ ++ (c ∷ []))) xs)
   below_most m φ c = go (kept_on m φ c) (below_on m φ c)
     where
       go : (o : Option (List Choice)) → Of (GoesOn (φ ++ (c ∷ []))) o
-          → (answer_of xs o).score ≤ score row_scoring xs (φ ++ (c ∷ [])) + weights (drop (length (φ ++ (c ∷ []))) xs)
+          → (answer_of xs o).score ≤ score card_scoring xs (φ ++ (c ∷ [])) + weights (drop (length (φ ++ (c ∷ []))) xs)
       go none g = omega arith
       go (some ψ) g = rw g.1 (score_more xs (φ ++ (c ∷ [])) g.0)
 
@@ -77,11 +77,11 @@ module _ (R : List ℕ) (xs : List Variant) where
   search_three m φ best = ap (improved best) three ∙ improved_three best (below m φ plus) (below m φ minus) (below m φ out)
     where
       two : Option (List Choice)
-      two = better rank_of (score row_scoring xs) (kept_on m φ minus) (kept_on m φ out)
+      two = better rank_of (score card_scoring xs) (kept_on m φ minus) (kept_on m φ out)
 
       first : Of (λ (χ : List Choice). Of (First rank_of χ) two) (kept_on m φ plus)
       first = of_both (λ (χ : List Choice). Of (First rank_of χ) (kept_on m φ minus)) (λ (χ : List Choice). Of (First rank_of χ) (kept_on m φ out)) (λ (χ : List Choice). Of (First rank_of χ) two)
-          (λ χ. better_of rank_of (score row_scoring xs) (First rank_of χ) (kept_on m φ minus) (kept_on m φ out))
+          (λ χ. better_of rank_of (score card_scoring xs) (First rank_of χ) (kept_on m φ minus) (kept_on m φ out))
           (kept_on m φ plus) (sooner m φ plus minus (omega arith)) (sooner m φ plus out (omega arith))
 
       three : answer_from R xs (suc m) φ ≡ improved (below m φ plus) (improved (below m φ minus) (below m φ out))

@@ -9,8 +9,7 @@ use native.Mathlib.Numerals.{add-one}
 use native.Mathlib.Omega.{arith}
 use Rattle.donors.specs.Choice.{Variant}
 use Rattle.donors.specs.Table.{row_at, variants_from}
-use Rattle.matching.specs.Card.{weights}
-use Rattle.matching.specs.Made.{weights_to}
+use Rattle.matching.specs.Made.{weights, weights_to}
 use Rattle.matching.proofs.EntryLaws.{entries, entry_at, entries_at_lem}
 
 pub weights_start : (t : List ℕ) → 0 ≡ weights_to t 0

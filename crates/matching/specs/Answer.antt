@@ -7,7 +7,7 @@ use Rattle.donors.specs.Choice.{Choice, plus, minus, out, Variant}
 use Rattle.donors.specs.Table.{most}
 use Rattle.matching.specs.declared.answer.Best.{Best}
 use Rattle.matching.specs.Best.{score}
-use Rattle.matching.specs.Card.{row_scoring}
+use Rattle.matching.specs.Card.{card_scoring}
 
 -- The byte that writes a choice: `+`, `-` or `0`.
 abbrev pub byte_of : Choice → ℕ
@@ -25,7 +25,7 @@ nothing_found = record { score = 0; found = false; choices = replicate most 48 }
 
 -- The answer that gives these choices.
 abbrev pub these_choices : List Variant → List Choice → Best
-these_choices xs φ = record { score = score row_scoring xs φ; found = true; choices = array_of φ }
+these_choices xs φ = record { score = score card_scoring xs φ; found = true; choices = array_of φ }
 
 -- The answer that the code gives for one of matching's search.
 abbrev pub answer_of : List Variant → Option (List Choice) → Best

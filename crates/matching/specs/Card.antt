@@ -1,24 +1,18 @@
--- The card's own score and rank, read off the entries. Request e: the score is the sum of the weights chosen in the lists that the scheme
--- counts; document 01: `+` ranks before `-` before `0`.
+-- The card's own score and rank, read off the entries. Document 01: the score is the number of chosen entries in both lists, each of which
+-- counts 1; `+` ranks before `-` before `0`.
 -- Assumes nothing: these are definitions.
 use Rattle.std.specs.Prelude.{Bool, List, [], ◌∷◌, ◌≡◌, refl, ℕ, ◌+◌, length}
 use Rattle.std.proofs.Common.{inl, inr, arith}
 use Rattle.bases.specs.Pick.{pick}
 use Rattle.donors.specs.Apart.{Pairwise}
 use Rattle.donors.specs.Choice.{Choice, plus, minus, out, Copy, copy0, copy1, Variant, chosen?, card_rules, chosen_of, carriers_of, SpansApart}
-use Rattle.donors.specs.Items.{only}
 use Rattle.donors.specs.Rules.{list1, list2, donor_of}
 use Rattle.matching.specs.Best.{Best, Scoring}
 use Rattle.matching.specs.BestOf.{Covers, Finite, best_of}
-use Rattle.matching.specs.Scheme.{both_lists, counted?}
 
--- What an entry counts: its weight, in a list that the scheme counts.
-abbrev pub weight_in : ℕ → Variant → ℕ
-weight_in s x = only (counted? s x.side) x.weight
-
--- What a choice counts: that, if the entry is chosen.
-abbrev pub counts : ℕ → Variant → Choice → ℕ
-counts s x c = pick (chosen? c) (weight_in s x) 0
+-- What a choice counts: the entry's weight, if it is chosen.
+abbrev pub counts : Variant → Choice → ℕ
+counts x c = pick (chosen? c) x.weight 0
 
 -- `+` before `-` before `0`.
 abbrev pub rank_of : Choice → ℕ
@@ -38,13 +32,9 @@ rank_distinct out plus e = absurd (omega arith)
 rank_distinct out minus e = absurd (omega arith)
 rank_distinct out out e = refl
 
--- The card's scoring under a scheme.
-abbrev pub card_scoring : ℕ → Scoring Variant Choice
-card_scoring s = record { weight = counts s; rank = rank_of; distinct = rank_distinct }
-
--- What the search scores by: the rows of its table have the weights that count, whichever list they are of.
-abbrev pub row_scoring : Scoring Variant Choice
-row_scoring = card_scoring both_lists
+-- The card's scoring.
+abbrev pub card_scoring : Scoring Variant Choice
+card_scoring = record { weight = counts; rank = rank_of; distinct = rank_distinct }
 
 -- The choices and the copies are all there.
 pub every_choice : Covers (plus ∷ minus ∷ out ∷ [])
@@ -68,9 +58,9 @@ card_finite = record {
   out_room = λ x h. refl;
 }
 
--- The best string of choices under a scheme, for entries in merged order on a reference.
-abbrev pub card_best : ℕ → List ℕ → List Variant → List Choice
-card_best s R xs = best_of card_rules card_finite (card_scoring s) R xs
+-- The best string of choices for entries in merged order on a reference.
+abbrev pub card_best : List ℕ → List Variant → List Choice
+card_best R xs = best_of card_rules card_finite card_scoring R xs
 
 -- A legal pair of choices in request c's words: no two chosen entries of one list overlap on the same copy where both carry an allele other
 -- than REF; and in document 01's: the lists' donors are equal on copy 0 and on copy 1.
@@ -80,16 +70,11 @@ pub record LegalPair (R : List ℕ) (xs : List Variant) (φ : List Choice) : Typ
   pub same0 : donor_of card_rules R list1 copy0 xs φ ≡ donor_of card_rules R list2 copy0 xs φ
   pub same1 : donor_of card_rules R list1 copy1 xs φ ≡ donor_of card_rules R list2 copy1 xs φ
 
--- The weights of entries, summed.
-unfoldable pub weights : List Variant → ℕ
-weights [] = 0
-weights (x ∷ xs) = x.weight + weights xs
+-- The number of chosen entries in both lists.
+abbrev pub chosen_count : List Variant → List Choice → ℕ
+chosen_count xs φ = length (chosen_of list1 xs φ) + length (chosen_of list2 xs φ)
 
--- The score in request e's words: the sum of the weights chosen in the lists that the scheme counts.
-abbrev pub chosen_weight : ℕ → List Variant → List Choice → ℕ
-chosen_weight s xs φ =
-    only (counted? s list1) (weights (chosen_of list1 xs φ)) + only (counted? s list2) (weights (chosen_of list2 xs φ))
-
--- The best pair under a scheme: of the legal pairs that with the highest score, and among equals the first in dictionary order.
-abbrev pub BestPair : ℕ → List ℕ → List Variant → List Choice → Type 0
-BestPair s R xs φ = Best rank_of (LegalPair R xs) (chosen_weight s xs) φ
+-- The best pair in document 01's words: of the legal pairs that with the most chosen entries, and among equals the first in dictionary
+-- order.
+abbrev pub BestPair : List ℕ → List Variant → List Choice → Type 0
+BestPair R xs φ = Best rank_of (LegalPair R xs) (chosen_count xs) φ

@@ -6,5 +6,4 @@ pub mod Cut
 pub mod Fits
 pub mod Legal
 pub mod Made
-pub mod Scheme
 pub mod Search

@@ -2,5 +2,4 @@
 // The contracts cite specs/, which say what is meant; proofs/ have the theorems.
 pub mod answer;
 pub mod fits;
-pub mod scheme;
 pub mod search;

@@ -11,8 +11,6 @@ use Rattle.records.proofs.record.pos_on.Kinds as pos-on-kinds
 use Rattle.records.proofs.record.pos_on.Reads as pos-on
 use Rattle.records.proofs.record.record_fault.Kinds as record-fault-kinds
 use Rattle.records.proofs.record.record_fault.Reads as record-fault
-use Rattle.records.proofs.record.weight_on.Kinds as weight-on-kinds
-use Rattle.records.proofs.record.weight_on.Reads as weight-on
 
 pub alt_fault_determines : OneResult 1 alt-fault-kinds.ps alt-fault-kinds.r alt-fault.Post
 alt_fault_determines κs a z z' e e' p q = p ∙ sym q
@@ -22,9 +20,6 @@ is_too_long_determines κs a z z' e e' p q = p ∙ sym q
 
 pub pos_on_determines : OneResult 1 pos-on-kinds.ps pos-on-kinds.r pos-on.Post
 pos_on_determines κs a z z' e e' p q = p ∙ sym q
-
-pub weight_on_determines : OneResult 1 weight-on-kinds.ps weight-on-kinds.r weight-on.Post
-weight_on_determines κs a z z' e e' p q = p ∙ sym q
 
 pub record_fault_determines : OneResult 3 record-fault-kinds.ps record-fault-kinds.r record-fault.Post
 record_fault_determines κs a z z' e e' p q = p ∙ sym q

@@ -20,10 +20,8 @@ use Rattle.bases.proofs.SameLaws.{same_iff}
 use Rattle.bases.proofs.TestLaws.{of_true, both}
 use Rattle.fields.specs.Allele.{is_allele?}
 use Rattle.fields.specs.Field.{field, ten_fields?}
-use Rattle.fields.specs.Weight.{heaviest, no_weight}
-use Rattle.fields.proofs.WeightLaws.{weight_most}
 use Rattle.records.specs.Alt.{alt_rows}
-use Rattle.records.specs.Record.{pos_on, genotype_wrong?, no_alt?, weight_on, later_rows, record_rows}
+use Rattle.records.specs.Record.{pos_on, genotype_wrong?, no_alt?, later_rows, record_rows}
 use Rattle.records.proofs.AltLaws.{RightAlts, right_iff}
 
 -- A record of a list on this reference.
@@ -34,7 +32,6 @@ pub record RecordLine (reference l : List ℕ) : Type 0 where
   pub alts : RightAlts (field 3 l) (field 4 l)
   pub genotype : genotype_wrong? l ≡ false
   pub copied : no_alt? l ≡ false
-  pub weight : weight_on l ≤ heaviest
   -- REF equals the reference at POS
   pub within : (place_of (pos_on l)).0 + length (field 3 l) ≤ length reference
   pub same : bases_of (field 3 l) ≡ stretch reference (place_of (pos_on l)).0 (length (field 3 l))
@@ -47,7 +44,7 @@ record_line reference name records last l z =
     let alt = (none_join (alt_rows l) (later_rows reference last l)).0 rows.1.1.1.1 in
     let behind = alt.1 in
     let on = (both (leb ((place_of (pos_on l)).0 + length ref) (length reference)) (same? (bases_of ref) at)).0
-    (of_true (not-false (leb ((place_of (pos_on l)).0 + length ref) (length reference) && same? (bases_of ref) at) behind.1.1.1.0)) in
+    (of_true (not-false (leb ((place_of (pos_on l)).0 + length ref) (length reference) && same? (bases_of ref) at) behind.1.1.0)) in
     let some = eqb-false (pos_on l).0 0 rows.1.1.0 in
     record {
       ten = of_true (not-false (ten_fields? l) rows.0);
@@ -56,7 +53,6 @@ record_line reference name records last l z =
       alts = (right_iff l).0 alt.0;
       genotype = behind.0;
       copied = behind.1.0;
-      weight = weight_most (field 7 l) (eqb-false (weight_on l) no_weight behind.1.1.0);
       within = leb→le _ _ on.0;
       same = (same_iff (bases_of ref) at).0 on.1;
     }
@@ -64,4 +60,4 @@ record_line reference name records last l z =
 pub record_order : (reference name : List ℕ) (records : ℕ) (last : Pos) (l : List ℕ) → NoneHolds (record_rows reference name records last l) → last.0 ≤ (pos_on l).0
 record_order reference name records last l z =
     let later = ((none_join (alt_rows l) (later_rows reference last l)).0 z.1.1.1.1.1.1.1).1 in
-    ltb-false (pos_on l).0 last.0 later.1.1.1.1.0
+    ltb-false (pos_on l).0 last.0 later.1.1.1.0

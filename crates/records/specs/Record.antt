@@ -1,4 +1,4 @@
--- The rows that are tried on a record's line, in order: 4, 5, 15, 6 to 9, 20 to 23, 11, 12, 24, 13, 14. Each row has its test.
+-- The rows that are tried on a record's line, in order: 4, 5, 15, 6 to 9, 20 to 23, 11 to 14. Each row has its test.
 -- Assumes nothing: these are definitions.
 use Rattle.std.specs.Prelude.{Bool, not, ◌&&◌, ◌||◌, List, [], ◌∷◌, ◌++◌, ℕ, ◌+◌, eqb, leb, ltb, length}
 use Rattle.bases.specs.Letter.{bases_of}
@@ -11,7 +11,6 @@ use Rattle.fields.specs.Bytes.{hash, begins?}
 use Rattle.fields.specs.Field.{field, ten_fields?}
 use Rattle.fields.specs.Genotype.{format_wrong?, genotype, copies_wrong?, copy0, copy1}
 use Rattle.fields.specs.Pos.{no_pos, read_pos}
-use Rattle.fields.specs.Weight.{no_weight, read_weight}
 use Rattle.records.specs.Alt.{alt_rows}
 use Rattle.records.specs.Row.{Row, row}
 
@@ -49,14 +48,6 @@ genotype_wrong? l = format_wrong? (field 8 l) || copies_wrong? (alt_count (field
 abbrev pub no_alt? : List ℕ → Bool
 no_alt? l = eqb (copy0 (genotype_on l)) 0 && eqb (copy1 (genotype_on l)) 0
 
--- The weight of a line; `no_weight` where row 24 holds.
-abbrev pub weight_on : List ℕ → ℕ
-weight_on l = read_weight (field 7 l)
-
--- Row 24: a CW= in INFO is bad or repeated.
-abbrev pub weight_wrong? : List ℕ → Bool
-weight_wrong? l = eqb (weight_on l) no_weight
-
 -- Row 13: REF at this POS runs past the reference or differs from it. Here and below a reference is the list of its bases.
 abbrev pub off_reference? : List ℕ → Pos → List ℕ → Bool
 off_reference? reference pos ref =
@@ -67,7 +58,6 @@ abbrev pub later_rows : List ℕ → Pos → List ℕ → List Row
 later_rows reference last l =
     row 11 (genotype_wrong? l)
     ∷ row 12 (no_alt? l)
-    ∷ row 24 (weight_wrong? l)
     ∷ row 13 (off_reference? reference (pos_on l) (field 3 l))
     ∷ row 14 (ltb (pos_on l).0 last.0)
     ∷ []

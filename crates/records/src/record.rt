@@ -1,9 +1,9 @@
-// The rows on a record's line, in their order: 4, 5, 15, 6 to 9, 20 to 23 (alt.rt), 11, 12, 24, 13, 14. One function a row.
+// The rows on a record's line, in their order: 4, 5, 15, 6 to 9, 20 to 23 (alt.rt), 11 to 14. One function a row.
 ghost use Rattle.std.specs.Prelude.{false, ◌≡◌, ◌≤◌, T};
 ghost use Rattle.bases.specs.Letter.{bases_of};
 ghost use Rattle.fields.specs.Field.{field, ten_fields?, fields_of};
-ghost use Rattle.records.specs.Record.{too_long?, chrom_wrong?, pos_on, ref_wrong?, genotype_wrong?, no_alt?, weight_on};
-ghost use Rattle.records.specs.Record.{off_reference?, later_rows, field_rows, record_rows};
+ghost use Rattle.records.specs.Record.{too_long?, chrom_wrong?, pos_on, ref_wrong?, genotype_wrong?, no_alt?, off_reference?};
+ghost use Rattle.records.specs.Record.{later_rows, field_rows, record_rows};
 ghost use Rattle.records.specs.Row.{first_row};
 
 use crate::alt::alt_fault;
@@ -16,7 +16,6 @@ use fields::bytes::begins;
 use fields::field::{Fields, field_from, fields_of, has_ten_fields};
 use fields::genotype::{copies_wrong, format_wrong, genotype_of};
 use fields::pos::read_pos;
-use fields::weight::{NO_WEIGHT, read_weight};
 
 // The most bytes of a line, without its LF.
 pub const LONGEST_LINE: usize = 1_024;
@@ -86,16 +85,6 @@ fn has_no_alt(line: &[u8], fields: Fields) -> bool
     (genotype[0] == b'0') & (genotype[2] == b'0')
 }
 
-// The weight; none where row 24 holds.
-pub fn weight_on(line: &[u8], fields: Fields) -> usize
-    requires { T (ten_fields? line.now)
-        × (fields ≡ fields_of line.now) }
-    ensures { result ≡ weight_on line.now }
-{
-    let at = fields.info;
-    read_weight(field_from(line, at))
-}
-
 // Row 13: does REF at this POS run past the reference or differ from it?
 fn is_off_reference(reference: &[u8], pos: Pos, line: &[u8], fields: Fields) -> bool
     requires { T (ten_fields? line.now)
@@ -117,7 +106,7 @@ fn is_off_reference(reference: &[u8], pos: Pos, line: &[u8], fields: Fields) -> 
     !part_agrees(reference, from, bases, 0, bases.len())
 }
 
-// The first of rows 11, 12, 24, 13 and 14 that holds on a line of ten fields at this POS, behind a record at POS `last`; or none.
+// The first row from 11 to 14 that holds on a line of ten fields at this POS, behind a record at POS `last`; or none.
 fn later_fault(reference: &[u8], pos: Pos, last: Pos, line: &[u8], fields: Fields) -> LineFault
     requires { T (ten_fields? line.now)
         × (fields ≡ fields_of line.now)
@@ -130,9 +119,6 @@ fn later_fault(reference: &[u8], pos: Pos, last: Pos, line: &[u8], fields: Field
     }
     if has_no_alt(line, fields) {
         return LineFault { number: 12, at: 0 };
-    }
-    if weight_on(line, fields) == NO_WEIGHT {
-        return LineFault { number: 24, at: 0 };
     }
     if is_off_reference(reference, pos, line, fields) {
         return LineFault { number: 13, at: 0 };

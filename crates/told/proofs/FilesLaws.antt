@@ -16,7 +16,6 @@ use borrow.Author.Tests.{eq-eqb}
 use lib.Dec.{eqb}
 use lib.ListN.{length, take, drop, length-append, length-replicate}
 use lib.Seq.{take-append_seam}
-use Rattle.matching.specs.Scheme.{both_lists}
 use Rattle.bases.specs.Letter.{bases_of}
 use Rattle.bases.specs.Pick.{pick}
 use Rattle.bases.specs.Put.{put}
@@ -25,10 +24,9 @@ use Rattle.card.specs.declared.answer.Answer.{Answer}
 use Rattle.card.specs.declared.refusal.Refusal.{Refusal}
 use Rattle.card.specs.All.{all_marked, all_refusal, all_answered, empty_plan, all_plan, all_bytes}
 use Rattle.card.specs.Answer.{answer, refused_answer}
-use Rattle.card.specs.Mark.{small_room?}
 use Rattle.card.specs.Refusal.{first_refusal, least_room, lists_checks}
 use Rattle.card.proofs.ClusterMarks.{marks_all}
-use Rattle.card.proofs.ListsLaws.{lists_read, marks_schemed}
+use Rattle.card.proofs.ListsLaws.{lists_read}
 use Rattle.card.proofs.ReadyLaws.{Answerable, lists_answerable}
 use Rattle.clusters.specs.declared.plan.Cluster.{Cluster}
 use Rattle.marks.specs.Marks.{clusters_of, all_marks, total_score}
@@ -50,9 +48,9 @@ module _ (file name first second marks : List ℕ) where
   open_files e = (rw e, rw e, rw e)
 
   pub closed_files : ends_in_lf? file ≡ true
-      → (files_answered file name first second marks ≡ all_answered both_lists (reference_in file) name first second least_room (length marks))
-      × (files_plan file name first second marks ≡ all_plan both_lists (reference_in file) name first second empty_plan marks)
-      × (files_marks file name first second marks ≡ all_bytes both_lists (reference_in file) name first second empty_plan marks)
+      → (files_answered file name first second marks ≡ all_answered (reference_in file) name first second least_room (length marks))
+      × (files_plan file name first second marks ≡ all_plan (reference_in file) name first second empty_plan marks)
+      × (files_marks file name first second marks ≡ all_bytes (reference_in file) name first second empty_plan marks)
   closed_files e = (rw e, rw e, rw e)
 
 -- The four numbers of an answer are those of a refusal.
@@ -77,11 +75,11 @@ module _ (file name first second before : List ℕ) (long : length before ≡ le
   r = reference_in file
 
   abbrev called : Refusal
-  called = all_refusal both_lists r name first second least_room (length before)
+  called = all_refusal r name first second least_room (length before)
 
   -- where the file ends in LF, the refusal is that of the call
   same : ends_in_lf? file ≡ true → called ≡ refusal_of file name first second
-  same e = marks_schemed r name first (small_room? least_room (length before)) second both_lists refl ∙ rw long (sym (file_past file (lists_checks r name first second false) e))
+  same e = rw long (sym (file_past file (lists_checks r name first second false) e))
 
   -- the answer's four numbers, whether it is a refusal or not
   four : (t : Bool) (a : Answer) (n s : ℕ) (q : Refusal) → a ≡ refused_answer q → Tells (pick t (all_marked a n s) (all_marked a 0 0)) q
@@ -94,7 +92,7 @@ module _ (file name first second before : List ℕ) (long : length before ≡ le
       by_end : (t : Bool) → ends_in_lf? file ≡ t → Tells (files_answered file name first second before) (refusal_of file name first second)
       by_end true e =
           rw (closed_files file name first second before e).0
-          (four (eqb called.number 0) (refused_answer called) (length (plan_of (bases_of r) first second)) (total_score both_lists (bases_of r) (clusters_of (bases_of r) first second))
+          (four (eqb called.number 0) (refused_answer called) (length (plan_of (bases_of r) first second)) (total_score (bases_of r) (clusters_of (bases_of r) first second))
           (refusal_of file name first second)
           (ap refused_answer (same e)))
       by_end false e =
@@ -114,7 +112,7 @@ module _ (file name first second before : List ℕ) (long : length before ≡ le
     pub files_clusters : (files_answered file name first second before).clusters ≡ length (plan_of (bases_of (reference_in file)) first second)
     files_clusters = ap (λ (a : AllMarked). a.clusters) (closed_files file name first second before ends).0 ∙ rw none
 
-    pub files_score : (files_answered file name first second before).score ≡ total_score both_lists (bases_of (reference_in file)) (clusters_of (bases_of (reference_in file)) first second)
+    pub files_score : (files_answered file name first second before).score ≡ total_score (bases_of (reference_in file)) (clusters_of (bases_of (reference_in file)) first second)
     files_score = ap (λ (a : AllMarked). a.score) (closed_files file name first second before ends).0 ∙ rw none
 
     pub files_plan_lem : take (files_answered file name first second before).clusters (files_plan file name first second before) ≡ plan_of (bases_of (reference_in file)) first second
@@ -123,17 +121,17 @@ module _ (file name first second before : List ℕ) (long : length before ≡ le
         rw (files_clusters, wrote) (take-append_seam (plan_of (bases_of r) first second) (drop (0 + length (plan_of (bases_of r) first second)) empty_plan))
 
     pub files_marks_lem : files_marks file name first second before
-        ≡ all_marks both_lists (bases_of (reference_in file)) (clusters_of (bases_of (reference_in file)) first second) ++ drop
-        (0 + length (all_marks both_lists (bases_of (reference_in file)) (clusters_of (bases_of (reference_in file)) first second))) before
+        ≡ all_marks (bases_of (reference_in file)) (clusters_of (bases_of (reference_in file)) first second) ++ drop
+        (0 + length (all_marks (bases_of (reference_in file)) (clusters_of (bases_of (reference_in file)) first second))) before
     files_marks_lem = (closed_files file name first second before ends).2 ∙ rw (empty_long, none)
 
     pub files_marked : length (merged_items first second) ≤ length (files_marks file name first second before)
     files_marked =
-        let own = all_marks both_lists (bases_of r) (clusters_of (bases_of r) first second) in
+        let own = all_marks (bases_of r) (clusters_of (bases_of r) first second) in
         let accepted = accepted_files file name first second z in
         omega (
           arith,
           ap length files_marks_lem,
           length-append own (drop (0 + length own) before),
-          marks_all both_lists (bases_of r) name first second accepted.0 accepted.1,
+          marks_all (bases_of r) name first second accepted.0 accepted.1,
         )

@@ -2,7 +2,6 @@
 -- and what marking their lists answers and leaves.
 -- Assumes nothing: these are definitions.
 use Rattle.std.specs.Prelude.{false, List, ◌∷◌, ℕ, length}
-use Rattle.matching.specs.Scheme.{both_lists}
 use Rattle.bases.specs.Pick.{pick}
 use Rattle.card.specs.declared.all.AllMarked.{AllMarked}
 use Rattle.card.specs.declared.refusal.Refusal.{Refusal}
@@ -22,13 +21,13 @@ module _ (file name first second marks : List ℕ) where
   abbrev pub files_answered : AllMarked
   files_answered =
       pick (ends_in_lf? file)
-      (all_answered both_lists (reference_in file) name first second least_room (length marks))
+      (all_answered (reference_in file) name first second least_room (length marks))
       (all_marked (answer 1 0 0 0 0) 0 0)
 
   -- The plan that is written, or none.
   abbrev pub files_plan : List Cluster
-  files_plan = pick (ends_in_lf? file) (all_plan both_lists (reference_in file) name first second empty_plan marks) empty_plan
+  files_plan = pick (ends_in_lf? file) (all_plan (reference_in file) name first second empty_plan marks) empty_plan
 
   -- The lent marks afterwards.
   abbrev pub files_marks : List ℕ
-  files_marks = pick (ends_in_lf? file) (all_bytes both_lists (reference_in file) name first second empty_plan marks) marks
+  files_marks = pick (ends_in_lf? file) (all_bytes (reference_in file) name first second empty_plan marks) marks

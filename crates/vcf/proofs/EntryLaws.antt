@@ -34,7 +34,7 @@ use Rattle.vcf.specs.Entry.{part, line_at, next_line, entry_of, header_bytes, re
 use Rattle.fields.specs.Field.{field_at, field_from, ten_fields?}
 use Rattle.fields.specs.Genotype.{copy0, copy1}
 use Rattle.fields.specs.Header.{header_line?}
-use Rattle.records.specs.Record.{pos_on, genotype_on, genotype_wrong?, weight_on}
+use Rattle.records.specs.Record.{pos_on, genotype_on, genotype_wrong?}
 use Rattle.vcf.specs.List.{lines_of}
 use Rattle.bases.proofs.TestLaws.{both, is_false}
 use Rattle.fields.proofs.BytesLaws.{until_le}
@@ -157,9 +157,9 @@ module _ (t : List ℕ) where
       go h (yes k) = k
       go h (no k) = absurd (omega (arith, entry_none i (records_at t) (omega arith)))
 
-pub entry_is : (l : List ℕ) (a : ℕ) {p : Pos} {r k end n w : ℕ} {bases alt g : List ℕ} {second : Part}
+pub entry_is : (l : List ℕ) (a : ℕ) {p : Pos} {r k end n : ℕ} {bases alt g : List ℕ} {second : Part}
     → p ≡ pos_on l → r ≡ field_at 3 l → bases ≡ field_from l r → k ≡ field_at 4 l → alt ≡ field_from l k → end ≡ 0 + until COMMA alt
-    → second ≡ part (a + k + end + 1) (length alt - (end + 1)) → n ≡ alt_count alt → g ≡ genotype_on l → w ≡ weight_on l
+    → second ≡ part (a + k + end + 1) (length alt - (end + 1)) → n ≡ alt_count alt → g ≡ genotype_on l
     → ◌≡◌ {A = Entry} record {
       pos = p;
       reference = part (a + r) (length bases);
@@ -168,9 +168,8 @@ pub entry_is : (l : List ℕ) (a : ℕ) {p : Pos} {r k end n w : ℕ} {bases alt
       alts = n;
       copy0 = copy0 g;
       copy1 = copy1 g;
-      weight = w;
     } (entry_of l a)
-entry_is l a {alt = alt} e1 e2 e3 e4 e5 e6 e7 e8 e9 e10 = let e = e6 ∙ zero-add (until COMMA alt) in cc
+entry_is l a {alt = alt} e1 e2 e3 e4 e5 e6 e7 e8 e9 = let e = e6 ∙ zero-add (until COMMA alt) in cc
 
 -- a line off which an entry can be read has ten fields and a genotype
 pub readable_ten : (l : List ℕ) → T (readable? l) → T (ten_fields? l)

@@ -1,6 +1,6 @@
 -- Which numbers and places are given for a list's text.
 --     judge_all             what is so of number and place of each row is so of those that are given
---     given?, given_words   a number is at most 32, and in request a's words "10 is given no more", and the place is "0 in all other rows" than 20 to 23
+--     given?, given_words   request a: a number is at most 23, "10 is given no more", and the place is 0 in all rows below 20
 --     judge_given           so it is of what judging gives
 --     judge_place_fits      a place is at most 1,024
 -- Assumes nothing.
@@ -57,18 +57,15 @@ module _ (reference name : List ℕ) (P : ℕ → ℕ → Type 0) (none : P 0 0)
 
 -- A number and a place that are given.
 abbrev pub given? : ℕ → ℕ → Bool
-given? k p = leb k 32 && (not (eqb k 10) && ((leb 20 k && leb k 23) || eqb p 0))
+given? k p = leb k 23 && (not (eqb k 10) && (leb 20 k || eqb p 0))
 
-pub given_words : (k p : ℕ) → T (given? k p) → (k ≤ 32) × (k ≢ 10) × (((20 ≤ k) × (k ≤ 23)) ⊎ (p ≡ 0))
+pub given_words : (k p : ℕ) → T (given? k p) → (k ≤ 23) × (k ≢ 10) × ((20 ≤ k) ⊎ (p ≡ 0))
 given_words k p t =
-    let s = (both (leb k 32) (not (eqb k 10) && ((leb 20 k && leb k 23) || eqb p 0))).0 t in
-    let r = (both (not (eqb k 10)) ((leb 20 k && leb k 23) || eqb p 0)).0 s.1 in (
-      leb→le k 32 s.0,
+    let s = (both (leb k 23) (not (eqb k 10) && (leb 20 k || eqb p 0))).0 t in
+    let r = (both (not (eqb k 10)) (leb 20 k || eqb p 0)).0 s.1 in (
+      leb→le k 23 s.0,
       λ e. T_not (eqb k 10) r.0 (of_true (eq-eqb k 10 e)),
-      ⊎_elim
-          (λ h. inl (let b = (both (leb 20 k) (leb k 23)).0 h in (leb→le 20 k b.0, leb→le k 23 b.1)))
-          (λ h. inr (eqb→eq p 0 h))
-          ((either (leb 20 k && leb k 23) (eqb p 0)).0 r.1),
+      ⊎_elim (λ h. inl (leb→le 20 k h)) (λ h. inr (eqb→eq p 0 h)) ((either (leb 20 k) (eqb p 0)).0 r.1),
     )
 
 module _ (reference name : List ℕ) (s : Stage) (n : ℕ) (l : List ℕ) where

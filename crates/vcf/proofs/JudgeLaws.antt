@@ -20,8 +20,8 @@ use Rattle.bases.proofs.TestLaws.{of_true, of_false, is_true, neither}
 use Rattle.bases.specs.Pick.{pick}
 use Rattle.vcf.specs.declared.list.Fault.{Fault}
 use Rattle.vcf.specs.declared.list.Stage.{Stage}
-use Rattle.fields.specs.Bytes.{LF, onto, pieces}
-use Rattle.vcf.specs.List.{lines_of, longest_text, text_wrong?, above, next_stage, line_rows, fault, judge_lines, judge_text}
+use Rattle.fields.specs.Bytes.{LF}
+use Rattle.vcf.specs.List.{onto, lines_of, longest_text, text_wrong?, above, next_stage, line_rows, fault, judge_lines, judge_text}
 use Rattle.records.specs.Row.{first_row}
 use Rattle.vcf.proofs.StageLaws.{stage_at}
 use Rattle.vcf.proofs.ToldLaws.{ClearTo, OnLine, AtEnd, Told, on_line, at_end, nowhere, on_line_not_zero, told, told_only}
@@ -107,7 +107,7 @@ refused_one (by_end h r) (by_line i s) = absurd (omega arith)
 refused_one (by_end h r) (by_end i s) = refl
 
 pub lines_few : (t : List ℕ) → length (lines_of t) ≤ length t
-unfolding pieces
+unfolding lines_of
 lines_few [] = omega arith
 lines_few (b ∷ bs) = go (eqb b LF) (lines_of bs) (lines_few bs)
   where

@@ -12,28 +12,45 @@ use mathlib.Core.Bool.{Bool, true, false}
 use mathlib.Core.List.{List, [], ◌∷◌}
 use mathlib.Core.Path.{◌≡◌, refl}
 use Prim.Native.Nat.{ℕ, suc, ◌+◌, ◌≤◌, ◌<◌}
+use native.Mathlib.Nat.{not-suc-le-zero}
 use native.Mathlib.Omega.{arith}
 use borrow.Author.Tests.{eq-eqb, ne_eqb}
-use lib.ListN.{length, take, drop}
+use lib.Dec.{eqb}
+use lib.ListN.{length, take, drop, length-drop, drop_of_length-le}
+use lib.Seq.{drop-drop}
 use Rattle.bases.specs.Pick.{pick}
 use Rattle.vcf.specs.declared.list.Stage.{Stage}
 use Rattle.fields.specs.Bytes.{LF, until}
 use Rattle.fields.specs.Header.{header_line?, header_wrong?}
-use Rattle.vcf.specs.List.{lines_of, text_wrong?, above, below_at, next_stage, line_rows, fault, judge_lines, judge_text}
+use Rattle.vcf.specs.List.{onto, lines_of, text_wrong?, above, below_at, next_stage, line_rows, fault, judge_lines, judge_text}
 use Rattle.fields.specs.Pos.{no_pos}
-use Rattle.fields.proofs.BytesLaws.{pieces_cons, pieces_at, pieces_past}
 use Rattle.records.specs.Record.{too_long?, pos_on, record_rows}
 use Rattle.records.specs.Row.{row, first_row}
 use Rattle.records.proofs.RowLaws.{Numbered, numbered, record_rows_numbered}
 
 pub lines_cons : (t : List ℕ) → 0 < length t → lines_of t ≡ take (until LF t) t ∷ lines_of (drop (until LF t + 1) t)
-lines_cons = pieces_cons LF
+unfolding lines_of until
+lines_cons [] h = absurd (not-suc-le-zero h)
+lines_cons (b ∷ bs) h = go (eqb b LF) bs (lines_cons bs)
+  where
+    Step : List ℕ → Type 0
+    Step s = 0 < length s → lines_of s ≡ take (until LF s) s ∷ lines_of (drop (until LF s + 1) s)
+
+    go : (t : Bool) (s : List ℕ) → Step s → pick t ([] ∷ lines_of s) (onto b (lines_of s)) ≡ take (pick t 0 (suc (until LF s))) (b ∷ s) ∷ lines_of (drop (pick t 0 (suc (until LF s)) + 1) (b ∷ s))
+    go true s f = refl
+    go false [] f = refl
+    go false (x ∷ s) f =
+        let e : suc (until LF (x ∷ s)) + 1 ≡ suc (until LF (x ∷ s) + 1) = omega arith in
+        rw (e, f (omega arith))
 
 pub lines_at : (t : List ℕ) (a : ℕ) → a < length t → lines_of (drop a t) ≡ take (until LF (drop a t)) (drop a t) ∷ lines_of (drop (a + until LF (drop a t) + 1) t)
-lines_at = pieces_at LF
+lines_at t a h =
+    let e : a + until LF (drop a t) + 1 ≡ a + (until LF (drop a t) + 1) = omega arith in
+    rw (e, ← drop-drop (until LF (drop a t) + 1) a t) (lines_cons (drop a t) (rw length-drop (omega arith)))
 
 pub lines_past : (t : List ℕ) (a : ℕ) → length t ≤ a → lines_of (drop a t) ≡ []
-lines_past = pieces_past LF
+unfolding lines_of
+lines_past t a h = rw (drop_of_length-le t {i = a} h)
 
 pub next_record : (s : Stage) (l : List ℕ) → s.below ≡ true → next_stage s l ≡ below_at (s.records + 1) (pos_on l)
 next_record s l e = rw e

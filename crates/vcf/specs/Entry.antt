@@ -1,5 +1,5 @@
--- The entries of a list. An entry is its POS, REF, ALTs, the ordered pair of copy alleles that the genotype's digits name, and its weight;
--- REF and ALTs are parts of the list's text.
+-- The entries of a list. An entry is its POS, REF, ALTs and the ordered pair of copy alleles that the genotype's digits name; REF and ALTs
+-- are parts of the list's text.
 -- Assumes nothing: these are definitions.
 use Rattle.std.specs.Prelude.{Bool, true, not, ◌&&◌, List, [], ◌∷◌, ℕ, zero, suc, ◌+◌, ◌-◌, leb, length, take, drop}
 use Rattle.bases.specs.Pick.{pick}
@@ -11,7 +11,7 @@ use Rattle.fields.specs.Field.{field_at, field, ten_fields?}
 use Rattle.fields.specs.Genotype.{copy0, copy1}
 use Rattle.fields.specs.Header.{header_line?}
 use Rattle.vcf.specs.List.{lines_of}
-use Rattle.records.specs.Record.{pos_on, genotype_on, genotype_wrong?, weight_on}
+use Rattle.records.specs.Record.{pos_on, genotype_on, genotype_wrong?}
 
 -- The line that begins at a, without its LF.
 abbrev pub line_at : List ℕ → ℕ → List ℕ
@@ -39,7 +39,6 @@ entry_of l a =
       alts = alt_count (field 4 l);
       copy0 = copy0 (genotype_on l);
       copy1 = copy1 (genotype_on l);
-      weight = weight_on l;
     }
 
 -- How many bytes the lines above the records take: those that begin with ##, and the column line behind them.

@@ -5,15 +5,21 @@ use Rattle.bases.specs.declared.place.Pos.{Pos}
 use Rattle.bases.specs.Pick.{pick}
 use Rattle.vcf.specs.declared.list.Stage.{Stage}
 use Rattle.vcf.specs.declared.list.Fault.{Fault}
-use Rattle.fields.specs.Bytes.{LF, pieces}
+use Rattle.fields.specs.Bytes.{LF}
 use Rattle.fields.specs.Header.{header_line?, header_wrong?}
 use Rattle.fields.specs.Pos.{no_pos}
 use Rattle.records.specs.Record.{too_long?, pos_on, record_rows}
 use Rattle.records.specs.Row.{Row, row, first_row}
 
+-- A byte in front of the first of some lines.
+abbrev pub onto : ℕ → List (List ℕ) → List (List ℕ)
+onto b [] = (b ∷ []) ∷ []
+onto b (l ∷ ls) = (b ∷ l) ∷ ls
+
 -- The lines of a text, each without its LF.
-abbrev pub lines_of : List ℕ → List (List ℕ)
-lines_of = pieces LF
+unfoldable pub lines_of : List ℕ → List (List ℕ)
+lines_of [] = []
+lines_of (b ∷ bs) = let ls = lines_of bs in pick (eqb b LF) ([] ∷ ls) (onto b ls)
 
 abbrev pub longest_text : ℕ
 longest_text = 65536

@@ -10,7 +10,7 @@ use fields::field::{field_from, fields_of};
 use fields::genotype::genotype_of;
 use fields::header::is_header_line;
 use fields::pos::read_pos;
-use records::record::{pos_on, weight_on};
+use records::record::pos_on;
 
 // A part of a text: where it begins and how many bytes it has.
 #[derive(Drop)]
@@ -19,8 +19,8 @@ pub struct Part {
     pub len: usize,
 }
 
-// An entry: POS, REF and the ALTs as parts of the list's text (`second` is empty where there is one ALT), the number of ALTs, the alleles
-// of the two copies, and the weight.
+// An entry: POS, REF and the ALTs as parts of the list's text (`second` is empty where there is one ALT), the number of ALTs, and the
+// alleles of the two copies.
 #[derive(Drop)]
 pub struct Entry {
     pub pos: Pos,
@@ -30,7 +30,6 @@ pub struct Entry {
     pub alts: usize,
     pub copy0: usize,
     pub copy1: usize,
-    pub weight: usize,
 }
 
 // Where the line behind the one at `at` begins.
@@ -140,7 +139,6 @@ fn entry_on(line: &[u8], at: usize) -> Entry
         alts: alt_count(alt),
         copy0: (genotype[0] - b'0') as usize,
         copy1: (genotype[2] - b'0') as usize,
-        weight: weight_on(line, fields),
     }
 }
 

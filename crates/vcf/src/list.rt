@@ -1,4 +1,4 @@
-// A list's text, judged: rows 3 to 9, 11 to 15 and 20 to 24 in their order.
+// A list's text, judged: rows 3 to 9, 11 to 15 and 20 to 23 in their order.
 ghost use Rattle.std.specs.Prelude.{◌≡◌, ◌+◌, ◌<◌, ◌^◌, T, true};
 ghost use Rattle.bases.specs.Letter.{bases_of};
 ghost use Rattle.fields.specs.Field.{ten_fields?};

@@ -11,9 +11,10 @@ use lib.ListN.{length}
 use Rattle.bases.specs.Place.{place_of}
 use Rattle.bases.specs.Letter.{letter_of, letter_among}
 use Rattle.bases.specs.Same.{agree?}
-use Rattle.fields.specs.Bytes.{TAB, COMMA, version_line, column_names, until, pieces}
+use Rattle.fields.specs.Bytes.{TAB, COMMA, version_line, column_names, until}
 use Rattle.vcf.specs.Entry.{header_bytes}
 use Rattle.fields.specs.Field.{skip}
+use Rattle.vcf.specs.List.{lines_of}
 use Rattle.fields.specs.Pos.{is_pos?, all_digits?, value_from}
 use Rattle.normal.specs.Form.{Form, OnReference, NoneEmpty, NormalForm}
 use Rattle.normal.specs.Cut.{run, all?, shortest, normal_of}
@@ -103,5 +104,5 @@ pub example_written :
     ∷ line (49 ∷ 48 ∷ []) 99 (C ∷ A ∷ T ∷ []) (C ∷ COMMA ∷ C ∷ A ∷ T ∷ A ∷ T ∷ [])
     ∷ line (49 ∷ 49 ∷ []) 97 (A ∷ []) (G ∷ [])
     ∷ [])
-unfolding written_text text_of written_lines put_line written_line digits_of normal_entry run all? shortest header_bytes pieces skip until is_pos? all_digits? value_from agree? letter_of letter_among
+unfolding written_text text_of written_lines put_line written_line digits_of normal_entry run all? shortest header_bytes lines_of skip until is_pos? all_digits? value_from agree? letter_of letter_among
 example_written = refl

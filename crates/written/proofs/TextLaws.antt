@@ -15,8 +15,8 @@ use lib.Dec.{eqb}
 use lib.ListN.{length, get_or, length-append}
 use lib.Seq.{take_at, drop-append-add, get_or-append-add}
 use Rattle.bases.specs.Pick.{pick}
-use Rattle.fields.specs.Bytes.{LF, until, onto, pieces}
-use Rattle.vcf.specs.List.{lines_of}
+use Rattle.fields.specs.Bytes.{LF, until}
+use Rattle.vcf.specs.List.{onto, lines_of}
 use Rattle.vcf.proofs.ListLaws.{lines_cons}
 use Rattle.written.specs.Lines.{All}
 use Rattle.written.specs.Written.{text_of}
@@ -39,7 +39,7 @@ all_map P Q f [] h = tt
 all_map P Q f (l ∷ ls) h = (f l h.0, all_map P Q f ls h.1)
 
 pub lines_free : (t : List ℕ) → All (Without LF) (lines_of t)
-unfolding pieces until
+unfolding lines_of until
 lines_free [] = tt
 lines_free (b ∷ bs) = go (eqb b LF) refl (lines_of bs) (lines_free bs)
   where
@@ -62,7 +62,7 @@ unfolding text_of
 text_cons_length l ls = length-append l (LF ∷ text_of ls) ∙ omega arith
 
 pub lines_text : (ls : List (List ℕ)) → All (Without LF) ls → lines_of (text_of ls) ≡ ls
-unfolding text_of pieces
+unfolding text_of lines_of
 lines_text [] h = refl
 lines_text (l ∷ ls) h =
     let t = l ++ (LF ∷ text_of ls) in
@@ -70,7 +70,7 @@ lines_text (l ∷ ls) h =
     ∙ rw (until_found LF l (text_of ls) h.0, take_at l (LF ∷ text_of ls) (length l) refl, drop-append-add l (LF ∷ text_of ls) 1, lines_text ls h.1)
 
 pub text_lines : (t : List ℕ) → get_or t (length t - 1) 0 ≡ LF → text_of (lines_of t) ≡ t
-unfolding text_of pieces
+unfolding text_of lines_of
 text_lines [] h = refl
 text_lines (b ∷ []) h = one h
   where

@@ -71,9 +71,6 @@ module _ (reference l : List ℕ) (good : Bases reference) (one : Without LF l) 
   abbrev m : List ℕ
   m = written_line reference l
 
-  written_7 : field 7 m ≡ field 7 l
-  written_7 = written_more reference l good one line 2
-
   written_8 : field 8 m ≡ field 8 l
   written_8 = written_more reference l good one line 3
 
@@ -117,10 +114,7 @@ module _ (reference name l : List ℕ) (records : ℕ) (last : Pos) (ok : Bases 
         rw (written_8 reference l ok one line, written_9 reference l ok one line, written_count reference l ok one line) later.0,
         (
           rw (written_9 reference l ok one line) later.1.0,
-          (
-            rw (written_7 reference l ok one line) later.1.1.0,
-            (rw (pos, ref) (on_reference reference l ok one line), (rw pos (le-ltb (new_pos reference l).0 before.0 k), tt)),
-          ),
+          (rw (pos, ref) (on_reference reference l ok one line), (rw pos (le-ltb (new_pos reference l).0 before.0 k), tt)),
         ),
       ) in (
         le-ltb longest_line (length m) (omega (arith, ltb-false longest_line (length l) z.0)),

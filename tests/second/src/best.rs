@@ -1,9 +1,8 @@
 //! The best pair by its definition: every pair of choices is tried over the whole reference.
 
-use crate::choice::Choice;
+use crate::choice::{score, Choice};
 use crate::donor::{donor, is_separate};
 use crate::merged::{merged, Item, Lists};
-use crate::scheme::Scheme;
 
 /// The best pair of choices, in merged order, and its score.
 #[derive(Clone, Debug, PartialEq, Eq)]
@@ -14,12 +13,12 @@ pub struct Best {
 
 /// Goes through the pairs in dictionary order, so among equal scores the first found stays.
 /// Leaving all entries out is always legal, and is the last pair.
-pub fn best(scheme: Scheme, reference: &[u8], lists: Lists) -> Best {
+pub fn best(reference: &[u8], lists: Lists) -> Best {
     let items = merged(lists);
     let mut choices = vec![Choice::Plus; items.len()];
     let mut best = None;
     loop {
-        let score = scheme.score(lists, &items, &choices);
+        let score = score(&choices);
         let higher = best.as_ref().is_none_or(|best: &Best| score > best.score);
         if higher && is_legal(reference, lists, &items, &choices) {
             let choices = choices.clone();

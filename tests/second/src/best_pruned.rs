@@ -1,34 +1,32 @@
 //! The best pair by a search that turns back early: at an overlap on a copy, at donors that no longer agree,
-//! and where the weights that are left do not beat the score found.
+//! and where too few entries are left to beat the score found.
 //!
 //! The merged order rises in POS, so what both lists spell up to the next start is final. The search
 //! builds the donors as it goes, only from the first start to the largest end; outside of that both
 //! lists spell the reference.
 
 use crate::best::Best;
-use crate::choice::Choice;
+use crate::choice::{score, Choice};
 use crate::donor::carried;
 use crate::entry::Entry;
 use crate::merged::{merged, Item, Lists};
-use crate::scheme::Scheme;
 
 /// The same pair as `best::best` gives, found quickly.
-pub fn best_pruned(scheme: Scheme, reference: &[u8], lists: Lists) -> Best {
+pub fn best_pruned(reference: &[u8], lists: Lists) -> Best {
     let items = merged(lists);
     let start = items.first().map_or(0, |item| item.of(lists).start());
     let end = items.iter().map(|item| item.of(lists).end()).max().unwrap_or(0);
     let mut search = Search {
-        scheme,
         stretch: &reference[..end],
         lists,
         items: &items,
         choices: Vec::with_capacity(items.len()),
-        best: None,
+        best: Best { score: 0, choices: vec![Choice::Zero; items.len()] },
     };
     let nothing = || Spelled { place: start, bases: Vec::new() };
     let both_copies = || [nothing(), nothing()];
     search.go(&mut [both_copies(), both_copies()], [0, 0]);
-    search.best.expect("leaving all out is legal")
+    search.best
 }
 
 /// What one list's choices so far spell on one copy, up to `place` of the reference.
@@ -67,23 +65,21 @@ impl Spelled {
 }
 
 struct Search<'a> {
-    scheme: Scheme,
     /// The reference up to the largest end.
     stretch: &'a [u8],
     lists: Lists<'a>,
     items: &'a [Item],
     choices: Vec<Choice>,
-    /// The best of the pairs already gone through, which come before in dictionary order: none before the first that is legal.
-    best: Option<Best>,
+    /// The best of the pairs already gone through, which come before in dictionary order.
+    best: Best,
 }
 
 impl Search<'_> {
     /// Tries each choice by rank for the next entry. `agreed` bytes of each copy are known to be
     /// equal. Leaves `spelled` and the choices as they were.
     fn go(&mut self, spelled: &mut AllSpelled, agreed: [usize; 2]) {
-        let score = self.scheme.score(self.lists, self.items, &self.choices);
-        let most = score + self.left();
-        if self.best.as_ref().is_some_and(|best| most <= best.score) {
+        let (score, left) = (score(&self.choices), self.items.len() - self.choices.len());
+        if score + left as u32 <= self.best.score {
             return;
         }
         let before = spelled.each_ref().map(now);
@@ -101,12 +97,6 @@ impl Search<'_> {
         for (copies, before) in spelled.iter_mut().zip(before) {
             back_to(copies, before);
         }
-    }
-
-    /// What all entries without a choice would add to the score.
-    fn left(&self) -> u32 {
-        let left = &self.items[self.choices.len()..];
-        left.iter().map(|item| self.scheme.adds(item.list, item.of(self.lists))).sum()
     }
 
     /// What `item` carries on a copy goes behind what its list spells there, if no span that is replaced there covers its start.
@@ -139,7 +129,7 @@ impl Search<'_> {
         let lengths = |list: usize| spelled[list].each_ref().map(|one| one.bases.len());
         if lengths(0) == lengths(1) {
             let choices = self.choices.clone();
-            self.best = Some(Best { score, choices });
+            self.best = Best { score, choices };
         }
     }
 }

@@ -1,4 +1,4 @@
-//! The card's calls, but for `allele` and `entries`. Each judges in document 01's order: 32; 1; 2; list 1; list 2; 17; 16; 18.
+//! The card's calls, but for `allele` and `entries`. Each judges in document 01's order: 1; 2; list 1; list 2; 17; 16; 18.
 //!
 //! A refused call writes nothing; all writing stands behind the last judgement. `reference` is as it was lent, `bases` are folded.
 
@@ -11,7 +11,6 @@ use crate::list::{self, RECORDS_MOST};
 use crate::merged::{merged, Item, Lists};
 use crate::reference;
 use crate::refusal::*;
-use crate::scheme::Scheme;
 use crate::written::written;
 
 /// As many entries, and so clusters, as two lists can have.
@@ -46,7 +45,6 @@ pub fn plan(
 /// Writes the marks of cluster `cluster` of the plan and returns its score, or that it is undecided.
 /// All other marks are unchanged.
 pub fn mark(
-    scheme: u32,
     reference: &[u8],
     name: &[u8],
     first: &[u8],
@@ -55,7 +53,6 @@ pub fn mark(
     cluster: usize,
     marks: &mut [u8],
 ) -> Result<Marked, Refusal> {
-    let scheme = Scheme::read(scheme)?;
     let bases = reference::read(reference)?;
     judge_room(plan.len(), ENTRIES_MOST)?;
     judge_room(marks.len(), ENTRIES_MOST)?;
@@ -66,13 +63,12 @@ pub fn mark(
         return Err(Refusal::of_call(NOT_THE_PLAN));
     }
     let asked = clusters.get(cluster).ok_or(Refusal::of_call(NO_CLUSTER))?;
-    Ok(mark_cluster(scheme, &bases, lists, &merged(lists), *asked, marks))
+    Ok(mark_cluster(&bases, lists, &merged(lists), *asked, marks))
 }
 
 /// Leaves what `plan`, and then `mark` of each cluster, leave. Returns the number of clusters and
 /// the score summed over the decided ones.
 pub fn mark_all(
-    scheme: u32,
     reference: &[u8],
     name: &[u8],
     first: &[u8],
@@ -80,7 +76,6 @@ pub fn mark_all(
     plan: &mut [Cluster],
     marks: &mut [u8],
 ) -> Result<(u32, u32), Refusal> {
-    let scheme = Scheme::read(scheme)?;
     let bases = reference::read(reference)?;
     judge_room(plan.len(), ENTRIES_MOST)?;
     judge_room(marks.len(), ENTRIES_MOST)?;
@@ -91,7 +86,7 @@ pub fn mark_all(
     plan[..clusters.len()].copy_from_slice(&clusters);
     let mut total = 0;
     for &cluster in &clusters {
-        if let Marked::Score(score) = mark_cluster(scheme, &bases, lists, &items, cluster, marks) {
+        if let Marked::Score(score) = mark_cluster(&bases, lists, &items, cluster, marks) {
             total += score;
         }
     }
@@ -152,7 +147,6 @@ pub(crate) fn read_both(
 
 /// Writes the marks of one cluster, and no other.
 fn mark_cluster(
-    scheme: Scheme,
     bases: &[u8],
     lists: Lists,
     items: &[Item],
@@ -165,7 +159,7 @@ fn mark_cluster(
         marks.fill(UNDECIDED);
         return Marked::Undecided;
     }
-    let best = best_pruned(scheme, bases, lists_of(lists, items, cluster));
+    let best = best_pruned(bases, lists_of(lists, items, cluster));
     for (mark, choice) in marks.iter_mut().zip(best.choices) {
         *mark = Choice::mark(choice);
     }

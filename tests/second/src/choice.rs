@@ -32,3 +32,8 @@ impl Choice {
         }
     }
 }
+
+/// The number of chosen entries.
+pub fn score(choices: &[Choice]) -> u32 {
+    choices.iter().map(|choice| u32::from(choice.is_chosen())).sum()
+}

@@ -1,4 +1,4 @@
-//! An entry is its POS, REF, ALTs, the ordered pair of copy alleles and its weight. All its bases are folded.
+//! An entry is its POS, REF, ALTs and the ordered pair of copy alleles. All its bases are folded.
 
 #[derive(Clone, Debug, PartialEq, Eq)]
 pub struct Entry {
@@ -9,8 +9,6 @@ pub struct Entry {
     pub alts: Vec<Vec<u8>>,
     /// The allele numbers that the two digits of the genotype name, in their order.
     pub copies: [usize; 2],
-    /// 0 to 1,000.
-    pub weight: u32,
 }
 
 impl Entry {

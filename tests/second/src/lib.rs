@@ -1,4 +1,4 @@
-//! The comparison card, written a second time from document 01, requests a to e and include/card.h alone.
+//! The comparison card, written a second time from document 01, requests a, b, c and d and include/card.h alone.
 //!
 //! It exists to be compared with: each rule stands once, in document 01's words, and the two places
 //! that matter most, the best pair and the normal form, stand twice, by definition and by a search
@@ -8,9 +8,9 @@
 //!   (recall for a reagent lot)
 //! - what the programs print: `programs` (compare, normalise, counts, lot_report), `report` (the table of a lot)
 //! - what is turned away: `refusal`
-//! - reading: `bases` (which bytes are equal), `reference`, `part`, `entry`, `alt`, `weight`, `record`, `list`
+//! - reading: `bases` (which bytes are equal), `reference`, `part`, `entry`, `alt`, `record`, `list`
 //! - the normal form: `normal_form` (definition), `normal_loop` (shift and trim), `written` (the text)
-//! - matching: `choice`, `donor`, `merged`, `scheme` (what a pair of choices scores), `best` (every pair of choices), `best_pruned`
+//! - matching: `choice`, `donor`, `merged`, `best` (every pair of choices), `best_pruned`
 //! - clusters: `gap` (where to cut), `clusters`, `counts` (what marks count)
 //!
 //! Beside the rules: `drawn` (what is drawn at random for tests), `drive` (drawn cases, called in
@@ -45,8 +45,6 @@ pub mod record;
 pub mod reference;
 pub mod refusal;
 pub mod report;
-pub mod scheme;
-pub mod weight;
 pub mod whole;
 pub mod written;
 

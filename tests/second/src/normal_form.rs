@@ -14,10 +14,10 @@ pub fn is_normal(pos: usize, alleles: &[&[u8]]) -> bool {
     none_empty && (!same_end || (pos == 1 && one_has_length_1)) && !(same_begin && all_longer)
 }
 
-/// The normal form of `entry`; its copy alleles and its weight stay. Exactly one exists, or this panics.
+/// The normal form of `entry`; its copy alleles stay. Exactly one exists, or this panics.
 pub fn normal_form(reference: &[u8], entry: &Entry) -> Entry {
     let donors = reference_and_donors(reference, entry);
-    let mut found = forms(&donors, entry)
+    let mut found = forms(&donors, entry.copies)
         .into_iter()
         .filter(|form| is_normal(form.pos, &form.alleles().collect::<Vec<_>>()));
     let normal = found.next().expect("a normal form exists");
@@ -34,8 +34,8 @@ pub fn reference_and_donors(reference: &[u8], entry: &Entry) -> Vec<Vec<u8>> {
 }
 
 /// Every form with these donors: what all begin with and all end with may be cut away, as far as
-/// no allele becomes empty. What is left of the reference is REF, what is left of a donor its ALT. All else is as in `entry`.
-pub fn forms(donors: &[Vec<u8>], entry: &Entry) -> Vec<Entry> {
+/// no allele becomes empty. What is left of the reference is REF, what is left of a donor its ALT.
+pub fn forms(donors: &[Vec<u8>], copies: [usize; 2]) -> Vec<Entry> {
     let shortest = donors.iter().map(Vec::len).min().unwrap_or(0);
     let begin = (0..shortest).take_while(|&i| all_equal(donors, |donor| donor[i]));
     let end = (1..=shortest).take_while(|&i| all_equal(donors, |donor| donor[donor.len() - i]));
@@ -48,8 +48,7 @@ pub fn forms(donors: &[Vec<u8>], entry: &Entry) -> Vec<Entry> {
                 pos: left + 1,
                 reference: alleles.next().expect("the reference is the first donor"),
                 alts: alleles.collect(),
-                copies: entry.copies,
-                weight: entry.weight,
+                copies,
             });
         }
     }

@@ -3,7 +3,7 @@
 use crate::entry::Entry;
 use std::collections::VecDeque;
 
-/// The normal form of `entry`; its copy alleles and its weight stay.
+/// The normal form of `entry`; its copy alleles stay.
 pub fn normal_loop(reference: &[u8], entry: &Entry) -> Entry {
     let mut form = Form {
         pos: entry.pos,
@@ -25,7 +25,6 @@ pub fn normal_loop(reference: &[u8], entry: &Entry) -> Entry {
         reference: alleles.next().expect("REF is the first allele"),
         alts: alleles.collect(),
         copies: entry.copies,
-        weight: entry.weight,
     }
 }
 

@@ -5,7 +5,6 @@ pub const LF: u8 = b'\n';
 pub const TAB: u8 = b'\t';
 pub const COMMA: u8 = b',';
 pub const COLON: u8 = b':';
-pub const SEMICOLON: u8 = b';';
 
 /// Some bytes of a text that follow one another; it may be empty.
 #[derive(Clone, Copy, Debug, PartialEq, Eq)]

@@ -14,9 +14,6 @@ use crate::report::report;
 /// The name where a program is given none.
 pub const NAME: &[u8] = b"chr1";
 
-/// The scheme of compare, and so of counts: both lists count.
-const SCHEME: u32 = 0;
-
 const HEADING: &str = "list\tPOS\tcluster\tmark\n";
 
 /// What `compare` prints for the bytes of reference.txt, first.vcf and second.vcf, with this name.
@@ -60,7 +57,7 @@ fn compared(
     let reference = bases(reference_file)?;
     let mut plan = [Cluster::default(); ENTRIES_MOST];
     let mut marks = [0; ENTRIES_MOST];
-    let (count, score) = mark_all(SCHEME, reference, name, first, second, &mut plan, &mut marks)?;
+    let (count, score) = mark_all(reference, name, first, second, &mut plan, &mut marks)?;
     let first = list::read(reference, name, 1, first)?;
     let second = list::read(reference, name, 2, second)?;
     Ok(table(&first, &second, &plan[..count as usize], &marks, score))
@@ -75,7 +72,7 @@ fn counted(
 ) -> Result<Vec<u8>, Refusal> {
     let reference = bases(reference_file)?;
     let (mut plan, mut marks) = ([Cluster::default(); ENTRIES_MOST], [0; ENTRIES_MOST]);
-    mark_all(SCHEME, reference, name, first, second, &mut plan, &mut marks)?;
+    mark_all(reference, name, first, second, &mut plan, &mut marks)?;
     let both = count(reference, name, first, second, &marks)?;
     let numbers = both.map(|counts| counts.numbers().map(|number| number.to_string()).join("\t"));
     Ok(format!("{}\n", numbers.join("\t")).into_bytes())

@@ -1,6 +1,6 @@
-//! One record line: rows 6 to 13 of document 01, tried as numbered, with rows 20 to 23 in the place of 10, and 24 behind 12.
+//! One record line: rows 6 to 13 of document 01, tried as numbered, with rows 20 to 23 in the place of 10.
 //!
-//! ID, QUAL, FILTER and INFO are carried: nothing here looks at them but for being there, and for the weight in INFO.
+//! ID, QUAL, FILTER and INFO are carried: nothing here looks at them but for being there.
 
 use crate::alt;
 use crate::bases::{folded, is_base, same};
@@ -8,7 +8,6 @@ use crate::entry::Entry;
 use crate::part::{Part, COLON, TAB};
 use crate::reference::REFERENCE_MOST;
 use crate::refusal::*;
-use crate::weight;
 
 const FIELDS: usize = 10;
 pub const ALLELE_MOST: usize = 64;
@@ -27,7 +26,7 @@ pub struct Record {
 /// Reads one line, or gives the first row that holds on it.
 pub fn read(reference: &[u8], name: &[u8], text: &[u8], line: Part) -> Result<Record, Row> {
     let fields = ten_fields(text, line).ok_or(NOT_TEN_FIELDS)?;
-    let [chrom, pos, _, reference_field, alt, _, _, info, format, sample] = fields;
+    let [chrom, pos, _, reference_field, alt, _, _, _, format, sample] = fields;
     if chrom.of(text) != name {
         return Err(WRONG_CHROM.into());
     }
@@ -44,7 +43,6 @@ pub fn read(reference: &[u8], name: &[u8], text: &[u8], line: Part) -> Result<Re
     if copies == [0, 0] {
         return Err(GENOTYPE_ZERO.into());
     }
-    let weight = weight::read(info.of(text)).ok_or(WRONG_WEIGHT)?;
     let there = reference.get(position - 1..position - 1 + replaced.len());
     if !there.is_some_and(|there| same(there, replaced)) {
         return Err(NOT_THE_REFERENCE.into());
@@ -54,7 +52,6 @@ pub fn read(reference: &[u8], name: &[u8], text: &[u8], line: Part) -> Result<Re
         reference: folded(replaced),
         alts: alts.iter().map(|part| folded(part.of(text))).collect(),
         copies,
-        weight,
     };
     Ok(Record { entry, line, pos, reference: reference_field, alts })
 }

@@ -1,4 +1,4 @@
-//! What is turned away: the table of document 01 and the rows of requests a, d and e, one name a row.
+//! What is turned away: the table of document 01 and the rows of requests a and d, one name a row.
 
 /// The four numbers that a refused call answers with, and its only effect.
 #[derive(Clone, Copy, Debug, PartialEq, Eq)]
@@ -31,10 +31,8 @@ pub const WRONG_SIZE: u32 = 20;
 pub const WRONG_BYTE: u32 = 21;
 pub const ALT_IS_REF: u32 = 22;
 pub const EQUAL_ALTS: u32 = 23;
-pub const WRONG_WEIGHT: u32 = 24;
 pub const WRONG_RUNS: u32 = 30;
 pub const LARGE_COUNTS: u32 = 31;
-pub const NO_SCHEME: u32 = 32;
 
 /// In the runs of a lot, number 6 is a line that is not a name and six numbers.
 pub const NOT_A_RUN: u32 = NOT_TEN_FIELDS;
@@ -54,7 +52,7 @@ impl From<u32> for Row {
 }
 
 impl Refusal {
-    /// Rows 1, 2, 16, 17, 18 and 30 to 32 concern the call: list, line and place are 0.
+    /// Rows 1, 2, 16, 17, 18, 30 and 31 concern the call: list, line and place are 0.
     pub fn of_call(number: u32) -> Refusal {
         Refusal { number, list: 0, line: 0, place: 0 }
     }
@@ -64,7 +62,7 @@ impl Refusal {
         Refusal { number, list, line: 0, place: 0 }
     }
 
-    /// Rows 4 to 15 and 20 to 24 concern one line, counted from 1.
+    /// Rows 4 to 15 and 20 to 23 concern one line, counted from 1.
     pub fn of_line(row: impl Into<Row>, list: u32, line: u32) -> Refusal {
         let Row { number, place } = row.into();
         Refusal { number, list, line, place }

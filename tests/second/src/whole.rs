@@ -1,11 +1,9 @@
 //! Whole runs of a program: in drawn folders, what it prints is held to what is expected, byte by byte.
 
 use crate::drive::at_allele::at_allele;
-use crate::drive::by_weight;
 use crate::drive::draw::names::Given;
 use crate::drive::lower_case::has_lower;
-use crate::drive::room::{self, OPPOSITE};
-use crate::drive::weighed::in_info;
+use crate::drive::room::{found_in_all, OPPOSITE};
 use crate::part::{LF, TAB};
 use crate::programs::NAME;
 use std::collections::BTreeMap;
@@ -43,7 +41,7 @@ pub struct Held {
     /// How often each kind was to be printed: `refused`, number, list and allele of ALT, or what is told of an accepted folder.
     kinds: BTreeMap<String, u64>,
     /// How often each kind of name was given, to be answered and to be refused; and of folders with lists that were to be answered, what
-    /// of the reference and of list 1 was in lower case, what INFO held in list 1, and what overlap and weights did in the marks.
+    /// of the reference and of list 1 was in lower case, and what overlap did in the marks.
     given: BTreeMap<String, u64>,
 }
 
@@ -91,8 +89,7 @@ impl Held {
             None => {
                 self.accepted += 1;
                 let name = given.and_then(|given| given.name.as_deref()).unwrap_or(NAME);
-                let of_files = lower_case(files).into_iter().chain(weights(files));
-                for what in of_files.chain(in_marks(files, name)) {
+                for what in lower_case(files).into_iter().chain(overlap(files, name)) {
                     *self.given.entry(format!("{what} answered")).or_default() += 1;
                 }
                 (kind(expected), "answered")
@@ -129,7 +126,7 @@ impl Held {
             counted(&self.kinds)
         );
         if !self.given.is_empty() {
-            println!("names given, lower case, overlap and weights: {}", counted(&self.given));
+            println!("names given, lower case, and overlap: {}", counted(&self.given));
         }
         let Held { folders, accepted, differences, .. } = self;
         println!(
@@ -151,24 +148,13 @@ fn lower_case(files: &[File]) -> Vec<&'static str> {
     }
 }
 
-/// What INFO holds in list 1, where the folder has lists.
-fn weights(files: &[File]) -> Vec<&'static str> {
-    match files {
-        [_, (_, Some(list)), _] => in_info(&[list]),
-        _ => Vec::new(),
-    }
-}
-
-/// What overlap and weights do in the marks, where the folder has two lists that are accepted.
-fn in_marks(files: &[File], name: &[u8]) -> Vec<&'static str> {
+/// What overlap does in the marks, where the folder has two lists that are accepted.
+fn overlap(files: &[File], name: &[u8]) -> Vec<&'static str> {
     let [(_, Some(reference)), (_, Some(first)), (_, Some(second))] = files else {
         return Vec::new();
     };
     let bases = reference.strip_suffix(&[LF]).unwrap_or_default();
-    let texts = [&first[..], second];
-    let mut found = room::found_in_all(bases, name, texts);
-    found.extend(by_weight::found_in_all(bases, name, texts));
-    found
+    found_in_all(bases, name, [first, second])
 }
 
 fn counted(kinds: &BTreeMap<String, u64>) -> String {

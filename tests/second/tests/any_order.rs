@@ -1,5 +1,5 @@
 //! Demand 3: once each cluster has been asked for, in any order, with repeats and refused calls
-//! between, the marks are the same, in one scheme for all.
+//! between, the marks are the same.
 
 mod common;
 
@@ -8,7 +8,6 @@ use common::lists::{text, NAME};
 use common::random::Random;
 use common::seen::Seen;
 use common::world::World;
-use second::merged::{merged, Item};
 use second::{Cluster, Marked};
 
 /// A call that is refused; the marks must not change.
@@ -18,17 +17,16 @@ fn refused_call(random: &mut Random, case: &Case, plan: &[Cluster], marks: &mut 
     let (reference, first, second) = (&case.reference, &case.first, &case.second);
     let mut full = plan.to_vec();
     full.resize(1_024, OLD_CLUSTER);
-    let refusal = match random.below(7) {
-        0 => second::mark(0, b"", NAME, first, second, &full, 0, marks),
-        1 => second::mark(0, reference, NAME, first, second, &full[..1_023], 0, marks),
-        2 => second::mark(0, reference, NAME, first, second, &full, 0, &mut marks[..1_023]),
-        3 => second::mark(0, reference, NAME, first, &wrong_list, &full, 0, marks),
+    let refusal = match random.below(6) {
+        0 => second::mark(b"", NAME, first, second, &full, 0, marks),
+        1 => second::mark(reference, NAME, first, second, &full[..1_023], 0, marks),
+        2 => second::mark(reference, NAME, first, second, &full, 0, &mut marks[..1_023]),
+        3 => second::mark(reference, NAME, first, &wrong_list, &full, 0, marks),
         4 => case.mark(plan, plan.len() + random.below(3), marks),
-        5 => case.mark_in(3, plan, 0, marks),
         _ => case.mark(&[Cluster { first: 1, count: 1 }], 0, marks),
     };
     let number = refusal.expect_err("a wrong call").number;
-    assert!([1, 2, 9, 16, 17, 32].contains(&number));
+    assert!([1, 2, 9, 16, 17].contains(&number));
     assert_eq!(*marks, before);
 }
 
@@ -48,9 +46,8 @@ fn marks_do_not_depend_on_the_order_of_the_calls() {
     let mut seen = Seen::default();
     for seed in 500_000..504_000 {
         let mut random = Random::new(seed);
-        let (world, scheme) = (World::new(&mut random, 20), random.below(3) as u32);
-        let (case, weights) = (Case::of(&world), weights(&world, scheme));
-        let (expected, score) = case.marks_in(scheme).expect("accepted");
+        let case = Case::of(&World::new(&mut random, 20));
+        let (expected, score) = case.marks().expect("accepted");
         let plan = case.plan().expect("accepted");
         if plan.is_empty() {
             continue;
@@ -62,10 +59,8 @@ fn marks_do_not_depend_on_the_order_of_the_calls() {
                 refused_call(&mut random, &case, &plan, &mut marks);
             }
             let before = marks.clone();
-            let marked = case.mark_in(scheme, &plan, cluster, &mut marks);
-            let marked = marked.expect("a cluster of the plan");
-            assert_only_its_marks_change(plan[cluster], &before, &marks);
-            assert_told(marked, plan[cluster], &marks, &weights);
+            let marked = case.mark(&plan, cluster, &mut marks).expect("a cluster of the plan");
+            assert_only_its_marks_change(plan[cluster], marked, &before, &marks);
             if let Marked::Score(score) = marked {
                 scores[cluster] = score;
             }
@@ -80,33 +75,20 @@ fn marks_do_not_depend_on_the_order_of_the_calls() {
     seen.assert_each(50);
 }
 
-/// What each entry adds to the score where it is chosen, in merged order.
-fn weights(world: &World, scheme: u32) -> Vec<u32> {
-    let weight = |item: &Item| match (scheme, item.list) {
-        (1, 1) | (2, 0) => 0,
-        _ => item.of(world.lists()).weight,
-    };
-    merged(world.lists()).iter().map(weight).collect()
-}
-
-fn assert_only_its_marks_change(cluster: Cluster, before: &[u8], after: &[u8]) {
+fn assert_only_its_marks_change(cluster: Cluster, marked: Marked, before: &[u8], after: &[u8]) {
     let first = cluster.first as usize;
     let behind = first + cluster.count as usize;
     assert_eq!(before[..first], after[..first]);
     assert_eq!(before[behind..], after[behind..]);
-}
-
-fn assert_told(marked: Marked, cluster: Cluster, marks: &[u8], weights: &[u32]) {
-    let (first, count) = (cluster.first as usize, cluster.count as usize);
-    let own = &marks[first..first + count];
+    let own = &after[first..behind];
     match marked {
         Marked::Undecided => {
             assert!(own.len() > 12 && own.iter().all(|mark| *mark == b'?'));
         }
         Marked::Score(score) => {
             assert!(own.len() <= 12 && own.iter().all(|mark| b"+-0".contains(mark)));
-            let chosen = own.iter().zip(&weights[first..]).filter(|(mark, _)| **mark != b'0');
-            assert_eq!(score, chosen.map(|(_, weight)| *weight).sum());
+            let chosen = own.iter().filter(|mark| **mark != b'0').count();
+            assert_eq!(score as usize, chosen);
         }
     }
 }

@@ -80,10 +80,10 @@ fn plan_and_marks_of_1023_1024_and_1025() {
         let expected = if small { Err(refusal) } else { Ok(1) };
         assert_eq!(second::plan(reference, NAME, first, second, &mut plan), expected);
         let expected = if small { Err(refusal) } else { Ok(Marked::Score(2)) };
-        let marked = second::mark(0, reference, NAME, first, second, &plan, 0, &mut marks);
+        let marked = second::mark(reference, NAME, first, second, &plan, 0, &mut marks);
         assert_eq!(marked, expected);
         let expected = if small { Err(refusal) } else { Ok((1, 2)) };
-        let marked = second::mark_all(0, reference, NAME, first, second, &mut plan, &mut marks);
+        let marked = second::mark_all(reference, NAME, first, second, &mut plan, &mut marks);
         assert_eq!(marked, expected);
         let written = if small { 0 } else { 2 };
         assert!(marks[written..].iter().all(|mark| *mark == OLD_MARK));

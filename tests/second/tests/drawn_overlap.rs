@@ -74,11 +74,7 @@ fn mark_all(is_opposite: bool) -> DrivenCase {
     let second = if is_opposite { "2 A C 1/1" } else { "2 A C 0/1" };
     let Case { reference, first, second } = Case::new("GAC", &["2 A C 0/1"; 2], &[second]);
     let (plan, marks) = (vec![OLD_CLUSTER; 1_024], vec![OLD_MARK; 1_024]);
-    DrivenCase::new(
-        &reference,
-        NAME,
-        Call::MarkAll { scheme: 0, texts: [first, second], plan, marks },
-    )
+    DrivenCase::new(&reference, NAME, Call::MarkAll { texts: [first, second], plan, marks })
 }
 
 #[test]

@@ -124,7 +124,7 @@ fn drawn_lists_have_one_record_an_entry_and_each_is_its_own() {
         let (mut plan, mut marks) = (vec![Cluster::default(); 1_024], vec![b'm'; 1_024]);
         let mut entries = vec![OLD_LISTED; 1_024];
         let [one, two] = &texts;
-        let marked = second::mark_all(0, reference, name, one, two, &mut plan, &mut marks);
+        let marked = second::mark_all(reference, name, one, two, &mut plan, &mut marks);
         let count = second::entries(reference, name, one, two, &mut entries).expect("accepted");
         plan.truncate(marked.expect("accepted").0 as usize);
         let (listed, behind) = entries.split_at(count as usize);

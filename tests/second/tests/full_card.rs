@@ -55,7 +55,7 @@ fn a_card_is_made_in_lower_case_or_on_a_soft_masked_reference() {
         cased.reference(&mut found);
         assert_eq!(found, reference);
         let (alts, copies) = (vec![b"AC".to_vec(); 2], [1, 1]);
-        let mut entries = [Entry { pos: 1, reference: b"AC".to_vec(), alts, copies, weight: 1 }];
+        let mut entries = [Entry { pos: 1, reference: b"AC".to_vec(), alts, copies }];
         cased.entries(&mut entries);
         assert!(entries[0].alleles().all(|one| one == allele));
     }

@@ -5,8 +5,9 @@ mod common;
 
 use common::calls::Case;
 use common::random::Random;
-use common::searched::assert_same;
 use common::seen::Seen;
+use second::best::best;
+use second::best_pruned::best_pruned;
 use second::drawn::large::large_world;
 
 #[test]
@@ -42,12 +43,12 @@ fn both_searches_find_the_same_pair() {
         if world.lists.iter().map(Vec::len).sum::<usize>() != 12 {
             continue;
         }
-        let found = assert_same(&world.reference, world.lists());
-        let chosen = found.choices.iter().filter(|choice| choice.is_chosen()).count();
+        let found = best_pruned(&world.reference, world.lists());
+        assert_eq!(found, best(&world.reference, world.lists()), "seed {seed}");
         searched += 1;
-        seen.note("none", chosen == 0);
-        seen.note("some", (1..12).contains(&chosen));
-        seen.note("all", chosen == 12);
+        seen.note("none", found.score == 0);
+        seen.note("some", (1..12).contains(&found.score));
+        seen.note("all", found.score == 12);
     }
     seen.assert_each(8);
     assert!(searched > 50);

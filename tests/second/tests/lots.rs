@@ -108,7 +108,7 @@ fn drawn_run(random: &mut Random) -> (Run, [Vec<u8>; 2]) {
         .map(|text| second::read(reference, name, 1, text).expect("accepted").entries());
     let items = merged(entries.each_ref().map(Vec::as_slice));
     let (mut plan, mut marks) = (vec![second::Cluster::default(); 1_024], vec![b'+'; 1_024]);
-    second::mark_all(0, reference, name, &first, &second, &mut plan, &mut marks).expect("accepted");
+    second::mark_all(reference, name, &first, &second, &mut plan, &mut marks).expect("accepted");
     for _ in 0..random.below(3) {
         let place = random.below(items.len() + 1);
         marks[place] = *random.pick(b"+-0?.\0\xff");

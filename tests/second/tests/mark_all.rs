@@ -23,7 +23,7 @@ fn undecided_clusters_are_counted_and_not_in_the_score() {
     let case = three_clusters();
     let (mut plan, mut marks) = ([OLD_CLUSTER; 1_024], [OLD_MARK; 1_024]);
     let (reference, first, second) = (&case.reference, &case.first, &case.second);
-    let marked = second::mark_all(0, reference, NAME, first, second, &mut plan, &mut marks);
+    let marked = second::mark_all(reference, NAME, first, second, &mut plan, &mut marks);
     assert_eq!(marked, Ok((3, 2)));
     let cluster = |first, count| Cluster { first, count };
     assert_eq!(plan[..4], [cluster(0, 3), cluster(3, 13), cluster(16, 1), OLD_CLUSTER]);
@@ -44,7 +44,7 @@ fn refused_in_the_order_of_the_rows_and_nothing_written() {
         (b"GACGTTGCGC", whole, whole, [2_000, 1_024], refused(13, 1, 4)),
     ] {
         let (mut plan, mut marks) = (vec![OLD_CLUSTER; rooms[0]], vec![OLD_MARK; rooms[1]]);
-        let found = second::mark_all(0, reference, NAME, first, second, &mut plan, &mut marks);
+        let found = second::mark_all(reference, NAME, first, second, &mut plan, &mut marks);
         assert_eq!(found, expected);
         assert!(plan.iter().all(|record| *record == OLD_CLUSTER));
         assert!(marks.iter().all(|mark| *mark == OLD_MARK));
@@ -83,14 +83,14 @@ fn one_call_leaves_what_plan_and_then_mark_of_each_leave() {
         let step = if clusters % 3 == 0 { 1 } else { 3 };
         for number in 0..clusters {
             let asked = (from + number * step) % clusters;
-            match second::mark(0, &reference, &name, &first, &second, &plan, asked, &mut marks) {
+            match second::mark(&reference, &name, &first, &second, &plan, asked, &mut marks) {
                 Ok(Marked::Score(more)) => score += more,
                 Ok(Marked::Undecided) => undecided += 1,
                 Err(refusal) => panic!("{refusal:?}"),
             }
         }
         let marked =
-            second::mark_all(0, &reference, &name, &first, &second, &mut all_plan, &mut all_marks);
+            second::mark_all(&reference, &name, &first, &second, &mut all_plan, &mut all_marks);
         assert_eq!(marked, planned.map(|count| (count, score)));
         assert_eq!((all_plan, all_marks), (plan, marks));
         seen.note("refused", planned.is_err());

@@ -77,8 +77,7 @@ fn all_small_entries_have_one_normal_form() {
             for alt in alts.iter().filter(|alt| **alt != reference[start..end]) {
                 let replaced = reference[start..end].to_vec();
                 let alts = vec![alt.clone()];
-                let entry =
-                    Entry { pos: start + 1, reference: replaced, alts, copies: [1, 1], weight: 1 };
+                let entry = Entry { pos: start + 1, reference: replaced, alts, copies: [1, 1] };
                 assert_normal(&reference, &entry, &normal_loop(&reference, &entry));
                 entries += 1;
             }

@@ -53,9 +53,9 @@ fn row_2_small_room_refuses_plan_and_mark() {
             let found = second::plan(reference, NAME, first, second, &mut plan);
             assert_eq!(found, Err(call(2)));
         }
-        let found = second::mark(0, reference, NAME, first, second, &plan, 0, &mut marks);
+        let found = second::mark(reference, NAME, first, second, &plan, 0, &mut marks);
         assert_eq!(found, Err(call(2)));
-        let found = second::mark_all(0, reference, NAME, first, second, &mut plan, &mut marks);
+        let found = second::mark_all(reference, NAME, first, second, &mut plan, &mut marks);
         assert_eq!(found, Err(call(2)));
         assert!(plan.iter().all(|record| *record == OLD_CLUSTER));
         assert!(marks.iter().all(|mark| *mark == OLD_MARK));

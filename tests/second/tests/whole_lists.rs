@@ -1,4 +1,4 @@
-//! Demand 3: the marks of the clusters, joined, are the best pair over the two whole lists, in one scheme for all.
+//! Demand 3: the marks of the clusters, joined, are the best pair over the two whole lists.
 
 mod common;
 
@@ -11,7 +11,6 @@ use second::best::best;
 use second::choice::Choice;
 use second::donor::overlap;
 use second::merged::{merged, Item};
-use second::scheme::Scheme;
 
 const CASES: u64 = 12_000;
 
@@ -22,11 +21,9 @@ fn clusters_joined_give_the_best_pair_of_the_whole_lists() {
         let mut random = Random::new(seed);
         let world = World::new(&mut random, 8);
         let case = Case::of(&world);
-        let scheme = random.below(3);
-        let whole = best(Scheme::ALL[scheme], &world.reference, world.lists());
+        let whole = best(&world.reference, world.lists());
         let marks: String = whole.choices.iter().map(|choice| char::from(choice.mark())).collect();
-        let marked = case.marks_in(scheme as u32);
-        assert_eq!(marked, Ok((marks, whole.score)), "{}", case.printed());
+        assert_eq!(case.marks(), Ok((marks, whole.score)), "{}", case.printed());
         note(&mut seen, &world, &whole.choices, &case.plan_pairs());
     }
     seen.assert_each(100);
@@ -72,7 +69,7 @@ fn chosen_of(list: usize, world: &World, choices: &[Choice]) -> Vec<String> {
     let chosen = items.filter(|(item, choice)| item.list == list && choice.is_chosen());
     let fields = chosen.map(|(item, _)| {
         let short = short(item.of(world.lists()));
-        short.splitn(4, ' ').take(3).collect::<Vec<_>>().join(" ")
+        short.rsplit_once(' ').expect("POS REF ALT GT").0.to_string()
     });
     fields.collect()
 }

@@ -15,7 +15,6 @@ use second::drawn::cased::Cased;
 use second::drawn::lists::{all_lines, contig_header};
 use second::drawn::random::Random;
 use second::list::RECORDS_MOST;
-use second::weight::ABSENT;
 use second::Entry;
 use std::path::Path;
 use std::process::ExitCode;
@@ -160,7 +159,7 @@ fn substitution(reference: &[u8], start: usize, length: usize) -> Entry {
 
 fn replaced(reference: &[u8], span: std::ops::Range<usize>, alt: &[u8]) -> Entry {
     let (pos, reference) = (span.start + 1, reference[span].to_vec());
-    Entry { pos, reference, alts: vec![alt.to_vec()], copies: [1, 1], weight: ABSENT }
+    Entry { pos, reference, alts: vec![alt.to_vec()], copies: [1, 1] }
 }
 
 fn text(entries: &[Entry]) -> Vec<u8> {

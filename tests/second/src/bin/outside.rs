@@ -10,7 +10,6 @@ use second::drawn::lists::contig_text;
 use second::drawn::masked::{mask_entry, stretches, write};
 use second::drawn::random::Random;
 use second::drawn::world::random_copies;
-use second::weight::ABSENT;
 use second::Entry;
 use std::ops::Range;
 use std::path::Path;
@@ -129,5 +128,5 @@ fn entry_in(random: &mut Random, reference: &[u8], repeat: &Repeat) -> Entry {
         alts.push(random.pick(&ways).clone());
     }
     let copies = random_copies(random, alts.len());
-    Entry { pos: from + 1, reference: reference[from..to].to_vec(), alts, copies, weight: ABSENT }
+    Entry { pos: from + 1, reference: reference[from..to].to_vec(), alts, copies }
 }

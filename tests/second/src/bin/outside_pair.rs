@@ -10,7 +10,6 @@ use second::drawn::lists::contig_text;
 use second::drawn::masked::{mask_entry, stretches, write};
 use second::drawn::random::Random;
 use second::drawn::world::{random_copies, World};
-use second::weight::ABSENT;
 use second::Entry;
 use std::path::Path;
 use std::process::ExitCode;
@@ -123,5 +122,5 @@ fn changed(
     let (before, bases) = (&reference[place - 1..place], &reference[place..place + length]);
     let alt = |twice: &bool| if *twice { [before, bases, bases].concat() } else { before.to_vec() };
     let alts = ways.iter().map(alt).collect();
-    Entry { pos: place, reference: [before, bases].concat(), alts, copies, weight: ABSENT }
+    Entry { pos: place, reference: [before, bases].concat(), alts, copies }
 }

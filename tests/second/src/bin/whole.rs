@@ -3,12 +3,10 @@
 //! lot_report has not, the program is given names too: the one that the records have, others, an empty one, and one too long for any.
 
 use second::drive::at_allele::AT_ALLELES;
-use second::drive::by_weight::{BY_WEIGHT, SCORE, ZERO};
 use second::drive::draw::folders::{folder, named_folder, FILES};
 use second::drive::draw::names::Given;
 use second::drive::draw::runs::{self, runs_file};
-use second::drive::room;
-use second::drive::weighed::INFO;
+use second::drive::room::OF_MARKS;
 use second::programs::NAME;
 use second::whole::{hold, Folder, LOWER};
 use std::process::ExitCode;
@@ -28,8 +26,8 @@ const GIVEN: [&str; 6] = [
 ];
 
 /// A program by its name: its folder of a seed and number, the kind of something that it prints, and the kinds that are demanded, of
-/// a program that reads lists among them each fault of an allele of ALT and of a weight in each list, and what is in lower case and in
-/// INFO; of one that marks them also what overlap and weights do.
+/// a program that reads lists among them each fault of an allele of ALT in each list, and what is in lower case; of one that marks them
+/// also what overlap does.
 struct Program {
     draw: Box<dyn Fn(u64, u64) -> Folder>,
     kind: fn(&str) -> String,
@@ -64,17 +62,14 @@ fn parsed(arguments: &[String], is_named: bool) -> Option<(Program, u64, u64, &[
     let of_lists = |print, kind, lists, of_marks: &[&str]| {
         let draw = Box::new(move |seed, number| of_two_lists(seed, number, is_named, print));
         let given: &[&str] = if is_named { &GIVEN } else { &[] };
-        let answered = LOWER.iter().chain(&INFO).chain(of_marks);
-        let answered = answered.map(|what| format!("{what} answered"));
+        let answered = LOWER.iter().chain(of_marks).map(|what| format!("{what} answered"));
         let given = given.iter().map(ToString::to_string).chain(answered);
-        let of_weights = (1..=lists).map(|list| format!("refused 24/{list}"));
-        let demanded = given.chain(at_alleles(lists)).chain(of_weights).collect();
+        let demanded = given.chain(at_alleles(lists)).collect();
         Program { draw, kind, demanded }
     };
-    let of_marks = [&room::OF_MARKS[..], &[BY_WEIGHT, ZERO, SCORE]].concat();
     let program = match program.as_str() {
-        "compare" => of_lists(second::compare, of_table, 2, &of_marks),
-        "counts" => of_lists(second::counts, of_counts, 2, &of_marks),
+        "compare" => of_lists(second::compare, of_table, 2, &OF_MARKS),
+        "counts" => of_lists(second::counts, of_counts, 2, &OF_MARKS),
         "normalise" => of_lists(normalise, of_text, 1, &[]),
         "lot_report" if !is_named => {
             let demanded = REFUSED_LOTS.map(String::from).to_vec();

@@ -2,16 +2,12 @@
 //! of the values are right after all, or are a fault of another row: the table decides.
 
 use super::false_alts::false_alts;
-use super::list::{
-    fill_line, Drawn, Fields, ALT, CHROM, FORMAT, INFO, LINE_MOST, POS, REF, SAMPLE,
-};
+use super::list::{fill_line, Drawn, Fields, ALT, CHROM, FORMAT, LINE_MOST, POS, REF, SAMPLE};
 use super::random::Random;
-use super::weights::false_info;
 
-/// The rows that `fault` breaks on a line; twice those that it breaks at either allele, and those that it breaks in either case; and
-/// that of the weight, which it breaks in many ways, and beside 12 or 13, four times.
-pub const ROWS: [u32; 24] =
-    [4, 5, 6, 7, 8, 9, 20, 20, 21, 21, 22, 22, 22, 22, 23, 23, 11, 12, 24, 24, 24, 24, 13, 14];
+/// The rows that `fault` breaks on a line; twice those that it breaks at either allele, and those that it breaks in either case.
+pub const ROWS: [u32; 20] =
+    [4, 5, 6, 7, 8, 9, 20, 20, 21, 21, 22, 22, 22, 22, 23, 23, 11, 12, 13, 14];
 
 const FALSE_POS: [&[u8]; 14] = [
     b"0",
@@ -95,13 +91,6 @@ fn record_fault(random: &mut Random, fields: &mut Fields, reference: usize, row:
         11 if random.once_in(2) => fields[FORMAT] = random.pick(&FALSE_FORMAT).to_vec(),
         11 => fields[SAMPLE] = random.pick(&FALSE_GENOTYPE).to_vec(),
         12 => fields[SAMPLE] = random.pick(&ZERO_GENOTYPE).to_vec(),
-        24 => {
-            fields[INFO] = false_info(random);
-            let beside = *random.pick(&[0, 0, 0, 12, 13, 13]);
-            if beside > 0 {
-                record_fault(random, fields, reference, beside);
-            }
-        }
         _ => place_fault(random, fields, reference),
     }
 }

@@ -6,9 +6,7 @@
 
 use super::list::ALLELE_MOST;
 use super::random::Random;
-use super::weights::weigh;
 use super::world::{random_copies, World};
-use crate::weight::ABSENT;
 use crate::Entry;
 
 /// How many bases the repeat has, of a cluster that is wide, or is not.
@@ -56,7 +54,6 @@ pub fn large_world(random: &mut Random) -> World {
     };
     for list in &mut lists {
         list.sort_by_key(|entry| entry.pos);
-        weigh(random, list);
     }
     if random.once_in(2) {
         lists.reverse();
@@ -96,7 +93,7 @@ impl Places {
         let bases = |length: usize| self.reference[place..place + length].to_vec();
         let (one, all) = (bases(1), bases(1 + self.moved));
         let (reference, alt) = if way == Way::Takes { (all, one) } else { (one, all) };
-        Entry { pos: place + 1, reference, alts: vec![alt], copies, weight: ABSENT }
+        Entry { pos: place + 1, reference, alts: vec![alt], copies }
     }
 
     /// An entry in each place. Each has its like in the other list, but for the last of 13.

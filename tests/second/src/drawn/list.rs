@@ -4,9 +4,7 @@
 use super::lists::{all_lines, COLUMN_LINE, NAME, VERSION_LINE};
 use super::random::Random;
 use super::repeats::{repeat, repeat_entry};
-use super::weights::{info, weigh};
 use super::world::{random_copies, random_entry, random_reference};
-use crate::weight::ABSENT;
 use crate::Entry;
 
 /// The longest line, without its LF.
@@ -73,16 +71,11 @@ impl Drawn {
     }
 }
 
-/// The field INFO is lengthened so that the line is `length` bytes long, if it is not already longer. A weight in it stays as it is.
+/// The field INFO is lengthened so that the line is `length` bytes long, if it is not already longer.
 pub fn fill_line(fields: &mut Fields, length: usize) {
     let line = fields.join(&b'\t').len();
     let field = INFO.min(fields.len() - 1);
-    let mut filler = vec![b'i'; length.saturating_sub(line)];
-    let last = fields[field].split(|byte| *byte == b';').next_back().expect("a part");
-    if let (true, Some(first)) = (last.starts_with(b"CW="), filler.first_mut()) {
-        *first = b';';
-    }
-    fields[field].extend(filler);
+    fields[field].extend(vec![b'i'; length.saturating_sub(line)]);
 }
 
 pub fn any_bases(random: &mut Random, least: usize, most: usize) -> Vec<u8> {
@@ -128,7 +121,6 @@ fn header(random: &mut Random) -> Vec<Vec<u8>> {
 fn any_entries(random: &mut Random, reference: &[u8], count: usize) -> Vec<Entry> {
     let mut entries: Vec<Entry> = (0..count).map(|_| any_entry(random, reference)).collect();
     entries.sort_by_key(|entry| entry.pos);
-    weigh(random, &mut entries);
     entries
 }
 
@@ -154,10 +146,10 @@ fn any_entry(random: &mut Random, reference: &[u8]) -> Entry {
         }
     }
     let copies = random_copies(random, alts.len());
-    Entry { pos: start + 1, reference: replaced, alts, copies, weight: ABSENT }
+    Entry { pos: start + 1, reference: replaced, alts, copies }
 }
 
-/// A record's ten fields. ID, QUAL, FILTER and what INFO gives beside the weight, what follows `GT:` and what follows the
+/// A record's ten fields. ID, QUAL, FILTER and INFO, what follows `GT:` and what follows the
 /// genotype are carried.
 fn fields(random: &mut Random, name: &[u8], entry: &Entry) -> Fields {
     let [left, right] = entry.copies;
@@ -170,7 +162,6 @@ fn fields(random: &mut Random, name: &[u8], entry: &Entry) -> Fields {
     if random.once_in(3) {
         sample = [&sample[..], b":", &any_bytes(random, 0, 8)].concat();
     }
-    let in_info = carried(random);
     let mut fields = vec![
         name.to_vec(),
         entry.pos.to_string().into_bytes(),
@@ -179,7 +170,7 @@ fn fields(random: &mut Random, name: &[u8], entry: &Entry) -> Fields {
         entry.alts.join(&b','),
         carried(random),
         carried(random),
-        info(random, entry.weight, in_info),
+        carried(random),
         format,
         sample,
     ];

@@ -1,6 +1,5 @@
-//! Making list texts, in short: a record is written "POS REF ALT GT", or "POS REF ALT GT WEIGHT".
+//! Making list texts, in short: a record is written "POS REF ALT GT".
 
-use crate::weight::ABSENT;
 use crate::Entry;
 
 pub const NAME: &[u8] = b"chr1";
@@ -13,14 +12,8 @@ pub const FIRST_RECORD: u32 = 3;
 /// A record line without its LF.
 pub fn line(short: &str) -> String {
     let parts: Vec<&str> = short.split(' ').collect();
-    let (pos, reference, alt, genotype, info) = match parts[..] {
-        [pos, reference, alt, genotype] => (pos, reference, alt, genotype, "DP=3".to_string()),
-        [pos, reference, alt, genotype, weight] => {
-            (pos, reference, alt, genotype, format!("DP=3;CW={weight}"))
-        }
-        _ => panic!("not POS REF ALT GT: {short}"),
-    };
-    format!("chr1\t{pos}\tid\t{reference}\t{alt}\t9\tPASS\t{info}\tGT\t{genotype}")
+    let [pos, reference, alt, genotype] = parts[..] else { panic!("not POS REF ALT GT: {short}") };
+    format!("chr1\t{pos}\tid\t{reference}\t{alt}\t9\tPASS\tDP=3\tGT\t{genotype}")
 }
 
 /// A text of the two header lines and the records.
@@ -41,11 +34,11 @@ pub fn contig_header(bases: usize) -> [Vec<u8>; 4] {
     [VERSION_LINE, &contig, genotype, COLUMN_LINE].map(|line| line.as_bytes().to_vec())
 }
 
-/// The text that lists these entries under that header, with no weights. The ID of each record is `r` and its number.
+/// The text that lists these entries under that header. The ID of each record is `r` and its number.
 pub fn contig_text(entries: &[Entry], bases: usize) -> Vec<u8> {
     let record = |(number, entry): (usize, &Entry)| {
         let string = |bytes: &[u8]| String::from_utf8(bytes.to_vec()).expect("bases");
-        let Entry { pos, reference, alts, copies: [left, right], .. } = entry;
+        let Entry { pos, reference, alts, copies: [left, right] } = entry;
         let (reference, alts) = (string(reference), string(&alts.join(&b',')));
         format!("chr1\t{pos}\tr{number}\t{reference}\t{alts}\t.\t.\t.\tGT\t{left}/{right}")
             .into_bytes()
@@ -63,17 +56,13 @@ pub fn all_lines(lines: impl IntoIterator<Item = Vec<u8>>) -> Vec<u8> {
     text
 }
 
-/// The entry as "POS REF ALT GT", and with its weight where that is not 1.
+/// The entry as "POS REF ALT GT".
 pub fn short(entry: &Entry) -> String {
     let string = |bytes: &[u8]| String::from_utf8(bytes.to_vec()).expect("bases");
     let alts = entry.alts.join(&b',');
     let [left, right] = entry.copies;
     let (pos, reference, alts) = (entry.pos, string(&entry.reference), string(&alts));
-    let weight = match entry.weight {
-        ABSENT => String::new(),
-        weight => format!(" {weight}"),
-    };
-    format!("{pos} {reference} {alts} {left}/{right}{weight}")
+    format!("{pos} {reference} {alts} {left}/{right}")
 }
 
 /// The text that lists these entries.
@@ -91,7 +80,6 @@ pub fn entry(record: &str) -> Entry {
         reference: parts[1].as_bytes().to_vec(),
         alts: parts[2].split(',').map(|alt| alt.as_bytes().to_vec()).collect(),
         copies: [digit(0), digit(2)],
-        weight: parts.get(4).map_or(ABSENT, |weight| weight.parse().expect("a weight")),
     }
 }
 

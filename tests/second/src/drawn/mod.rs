@@ -8,7 +8,6 @@
 //!   two lists on one reference; `masked` puts bases of these into lower case, `cased` all bases of a full card
 //! - `fault` breaks a chosen row of the table in such a list, with `false_alts` for those on ALT, `damage` breaks
 //!   any text anywhere, `mutate` changes bytes of anything
-//! - `weights` gives entries weights, and draws the field INFO that tells them, or that is at fault
 
 pub mod cased;
 pub mod damage;
@@ -25,5 +24,4 @@ pub mod random;
 pub mod repeats;
 pub mod rewritten;
 pub mod sizes;
-pub mod weights;
 pub mod world;

@@ -6,26 +6,12 @@ use super::random::Random;
 use std::ops::Range;
 
 /// Bytes that mean something somewhere, and some that mean nothing anywhere.
-const TELLING: &[u8] = b"\t\n#,:;=/|.0123456789ACGTNacgtn \r\0\x01\x7f\x80\xff";
+const TELLING: &[u8] = b"\t\n#,:/|.0123456789ACGTNacgtn \r\0\x01\x7f\x80\xff";
 
 /// Pieces that single bytes seldom make.
 const PIECES: [&[u8]; 12] = [
     b"##", b"\n#", b"\n\n", b"\t\t", b"GT:", b"0/0", b"0|0", b"1|2", b"A,C", b"65535", b"65536",
     b"00",
-];
-
-/// Parts of INFO that give a weight, or begin as if.
-const WEIGHTS: [&[u8]; 10] = [
-    b"CW=",
-    b"CW=0",
-    b"CW=0",
-    b"CW=1",
-    b"CW=7",
-    b"CW=1000",
-    b"CW=1001",
-    b"CW=01",
-    b"cw=2",
-    b"CW=7;CW=7",
 ];
 
 /// Nothing becomes longer: row 3 holds from 65,537 bytes on, row 1 from 65,536.
@@ -40,7 +26,7 @@ pub fn mutate(random: &mut Random, bytes: &mut Vec<u8>, other: &[u8]) {
     let place = any_place(random, bytes);
     let part = part(random, bytes);
     let piece = *random.pick(&PIECES);
-    match random.below(56) {
+    match random.below(50) {
         0..=2 => bytes[place] ^= 1 << random.below(8),
         3..=8 => bytes[place] = telling,
         9..=13 => change_a_digit(random, bytes, place),
@@ -52,7 +38,6 @@ pub fn mutate(random: &mut Random, bytes: &mut Vec<u8>, other: &[u8]) {
         28..=30 => put_part_of(random, bytes, part.start, other),
         31..=43 => change_a_cell(random, bytes, place),
         44..=48 => change_case(random, &mut bytes[part]),
-        49..=54 => put_weight(random, bytes, place),
         _ => bytes.truncate(part.start),
     }
     bytes.truncate(LENGTH_MOST);
@@ -141,18 +126,6 @@ fn change_a_cell(random: &mut Random, bytes: &mut Vec<u8>, place: usize) {
         6 => (start..start, b",".to_vec()),
         7 => (end..end, b",".to_vec()),
         _ => (start..end, long),
-    };
-    bytes.splice(range, put);
-}
-
-/// A weight stands before a cell of the line at the place, or behind it, with a semicolon between, or in its place.
-fn put_weight(random: &mut Random, bytes: &mut Vec<u8>, place: usize) {
-    let Range { start, end } = random.pick(&cells(bytes, place)).clone();
-    let weight = *random.pick(&WEIGHTS);
-    let (range, put) = match random.below(4) {
-        0 => (start..end, weight.to_vec()),
-        1 => (start..start, [weight, b";"].concat()),
-        _ => (end..end, [b";", weight].concat()),
     };
     bytes.splice(range, put);
 }

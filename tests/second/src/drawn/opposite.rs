@@ -7,7 +7,6 @@ use super::rewritten::rewritten;
 use super::world::entry_from;
 use crate::choice::Choice;
 use crate::donor::{donor, is_separate};
-use crate::weight::ABSENT;
 use crate::Entry;
 
 /// The longest span of an entry that has others under it.
@@ -75,7 +74,6 @@ fn over(random: &mut Random, reference: &[u8]) -> Entry {
         alts: vec![replaced[..1].to_vec()],
         reference: replaced,
         copies: [0, 1],
-        weight: ABSENT,
     }
 }
 
@@ -144,5 +142,5 @@ fn joined(random: &mut Random, reference: &[u8], group: &[(Entry, Choice)]) -> O
     let copies = alleles.map(number);
     let is_short = |allele: &Vec<u8>| allele.len() <= ALLELE_MOST;
     let fits = !alts.is_empty() && is_short(&replaced) && alts.iter().all(is_short);
-    fits.then_some(Entry { pos: start + 1, reference: replaced, alts, copies, weight: ABSENT })
+    fits.then_some(Entry { pos: start + 1, reference: replaced, alts, copies })
 }

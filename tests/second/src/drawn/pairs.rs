@@ -5,10 +5,8 @@ use super::list::{any_bases, any_name, Drawn};
 use super::lists::NAME;
 use super::random::Random;
 use super::sizes::{sized_list, sized_reference};
-use super::weights::weigh;
 use super::world::{random_entry, random_reference, World};
 use crate::list::RECORDS_MOST;
-use crate::weight::ABSENT;
 use crate::Entry;
 
 /// The lists of a world with at most `most` entries: the one is mostly the other, written in another way.
@@ -68,7 +66,6 @@ fn crowd_world(random: &mut Random) -> World {
     }
     for list in &mut lists {
         list.sort_by_key(|entry| entry.pos);
-        weigh(random, list);
     }
     World { reference, lists }
 }
@@ -90,12 +87,10 @@ pub fn apart(random: &mut Random) -> [Drawn; 2] {
         let (pos, reference, alts) = (place + 1, vec![replaced], vec![vec![alt]]);
         let list = if lists[0].len() == RECORDS_MOST { 1 } else { random.below(2) };
         let list = if lists[1].len() == RECORDS_MOST { 0 } else { list };
-        lists[list].push(Entry { pos, reference, alts, copies: [1, 1], weight: ABSENT });
+        lists[list].push(Entry { pos, reference, alts, copies: [1, 1] });
     }
-    lists.map(|mut entries| {
-        weigh(random, &mut entries);
-        Drawn::of(random, reference.clone(), NAME.to_vec(), &entries)
-    })
+    let lists = lists.map(|entries| Drawn::of(random, reference.clone(), NAME.to_vec(), &entries));
+    lists
 }
 
 /// A list or a reference of a size where the rules change, and a small list beside it.

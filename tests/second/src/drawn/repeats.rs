@@ -4,7 +4,6 @@
 use super::list::{any_bases, ALLELE_MOST};
 use super::random::Random;
 use super::world::random_copies;
-use crate::weight::ABSENT;
 use crate::Entry;
 
 const UNIT_MOST: usize = 40;
@@ -42,5 +41,5 @@ pub fn repeat_entry(random: &mut Random, reference: &[u8]) -> Entry {
         alts.reverse();
     }
     let copies = random_copies(random, alts.len());
-    Entry { pos: start + 1, reference: replaced.to_vec(), alts, copies, weight: ABSENT }
+    Entry { pos: start + 1, reference: replaced.to_vec(), alts, copies }
 }

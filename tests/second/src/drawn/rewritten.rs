@@ -31,7 +31,7 @@ pub fn rewritten(random: &mut Random, reference: &[u8], entries: &[Entry]) -> Ve
 
 /// The entry with more or fewer bases around it, or moved along a repeat; small alleles are likely.
 fn other_form(random: &mut Random, reference: &[u8], entry: &Entry) -> Entry {
-    let mut forms = forms(&reference_and_donors(reference, entry), entry);
+    let mut forms = forms(&reference_and_donors(reference, entry), entry.copies);
     forms.retain(|form| form.reference.len() <= 6);
     random.pick(&forms).clone()
 }
@@ -46,7 +46,7 @@ fn split(random: &mut Random, entry: &Entry) -> Vec<Entry> {
     let (left_alt, right_alt) = alt.split_at(random.between(1, alt.len() - 1));
     let half = |pos, reference: &[u8], alt: &[u8]| {
         let (reference, alts) = (reference.to_vec(), vec![alt.to_vec()]);
-        Entry { pos, reference, alts, ..*entry }
+        Entry { pos, reference, alts, copies: entry.copies }
     };
     let halves = [half(entry.pos, left, left_alt), half(entry.pos + left.len(), right, right_alt)];
     halves.into_iter().filter(|half| half.reference != half.alts[0]).collect()

@@ -4,16 +4,10 @@
 use super::opposite::opposite_lists;
 use super::random::Random;
 use super::rewritten::rewritten;
-use super::weights::{twin, weigh};
-use crate::weight::ABSENT;
 use crate::Entry;
 
 /// In one of so many worlds, many entries of a list overlap.
 const OVERLAPPING: usize = 4;
-
-/// In one of so many worlds, no entry has a weight; of the others, in one of so many an entry has its like before it, with a lower weight.
-const UNWEIGHED: usize = 4;
-const TWINS: usize = 4;
 
 pub struct World {
     pub reference: Vec<u8>,
@@ -38,7 +32,7 @@ impl World {
         World::of(random, reference, lists, most)
     }
 
-    /// With any entries more in the second list, or fewer, with either list first, and mostly with weights.
+    /// With any entries more in the second list, or fewer, and with either list first.
     fn of(random: &mut Random, reference: Vec<u8>, lists: [Vec<Entry>; 2], most: usize) -> World {
         let [first, mut second] = lists;
         while random.once_in(3) {
@@ -48,15 +42,7 @@ impl World {
             second.remove(random.below(second.len()));
         }
         second.sort_by_key(|entry| entry.pos);
-        let mut lists = if random.once_in(2) { [first, second] } else { [second, first] };
-        if random.once_in(UNWEIGHED) {
-            return World { reference, lists };
-        }
-        lists.iter_mut().for_each(|list| weigh(random, list));
-        let list = random.below(2);
-        if random.once_in(TWINS) && !lists[list].is_empty() && lists.concat().len() < most {
-            twin(random, &mut lists[list]);
-        }
+        let lists = if random.once_in(2) { [first, second] } else { [second, first] };
         World { reference, lists }
     }
 
@@ -114,7 +100,7 @@ pub fn entry_from(random: &mut Random, reference: &[u8], start: usize) -> Entry 
         true => [1, 1],
         false => random_copies(random, alts.len()),
     };
-    Entry { pos: start + 1, reference: replaced, alts, copies, weight: ABSENT }
+    Entry { pos: start + 1, reference: replaced, alts, copies }
 }
 
 /// Any pair of allele numbers but 0 and 0.
@@ -155,7 +141,7 @@ fn undone(random: &mut Random, reference: &[u8]) -> Vec<Entry> {
     let (inserted, kept) = (start + 1, start + 1 + length);
     let entry = |pos, reference: &[u8], alt: &[u8]| {
         let (reference, alts) = (reference.to_vec(), vec![alt.to_vec()]);
-        Entry { pos, reference, alts, copies: [0, 1], weight: ABSENT }
+        Entry { pos, reference, alts, copies: [0, 1] }
     };
     vec![
         entry(start + 1, &reference[start..=start], &reference[start..kept]),

@@ -94,24 +94,16 @@ fn planned(case: &Case, texts: &[Vec<u8>; 2]) -> &'static str {
 
 /// What overlap does in the marks that an answered call left.
 pub fn of_marks(case: &Case) -> Vec<&'static str> {
-    let (Call::Mark { texts, .. } | Call::MarkAll { texts, .. }) = &case.call else {
-        return Vec::new();
+    let (texts, plan, marks) = match &case.call {
+        _ if case.expected.answer.number != 0 => return Vec::new(),
+        Call::Mark { texts, plan, cluster, .. } => {
+            (texts, vec![plan[*cluster]], &case.expected.left[0])
+        }
+        Call::MarkAll { texts, .. } => (texts, left_plan(case), &case.expected.left[1]),
+        _ => return Vec::new(),
     };
-    if case.expected.answer.number != 0 {
-        return Vec::new();
-    }
-    let (plan, marks) = marked_clusters(case);
     let texts = texts.each_ref().map(Vec::as_slice);
     room::found(&case.reference, &case.name, texts, &plan, marks)
-}
-
-/// The clusters that an answered call marked, none where it marks none, and all marks as it left them.
-pub fn marked_clusters(case: &Case) -> (Vec<Cluster>, &[u8]) {
-    match &case.call {
-        Call::Mark { plan, cluster, .. } => (vec![plan[*cluster]], &case.expected.left[0]),
-        Call::MarkAll { .. } => (left_plan(case), &case.expected.left[1]),
-        _ => (Vec::new(), &[]),
-    }
 }
 
 /// The records of the plan that an answered call left.

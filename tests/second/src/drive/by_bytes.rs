@@ -7,7 +7,6 @@ use crate::clusters::{clusters, lists_of, DECIDED_MOST};
 use crate::merged::merged;
 use crate::normal_loop::normal_loop;
 use crate::record::Record;
-use crate::scheme::Scheme;
 use crate::{Cluster, Entry};
 
 /// The entries of an accepted list.
@@ -52,15 +51,14 @@ pub fn clusters_differ(case: &Case, lists: &[Entries]) -> bool {
 }
 
 /// Whether one of these clusters would have other marks.
-pub fn marks_differ(scheme: u32, case: &Case, lists: &[Entries], clusters: &[Cluster]) -> bool {
-    let scheme = Scheme::read(scheme).expect("accepted");
+pub fn marks_differ(case: &Case, lists: &[Entries], clusters: &[Cluster]) -> bool {
     let bases = folded(&case.reference);
     let folded = [0, 1].map(|list| &lists[list].folded[..]);
     let lent = [0, 1].map(|list| &lists[list].lent[..]);
     let items = merged(folded);
     let mut decided = clusters.iter().filter(|cluster| cluster.count as usize <= DECIDED_MOST);
     decided.any(|cluster| {
-        let by_bytes = best_pruned(scheme, &case.reference, lists_of(lent, &items, *cluster));
-        best_pruned(scheme, &bases, lists_of(folded, &items, *cluster)) != by_bytes
+        let by_bytes = best_pruned(&case.reference, lists_of(lent, &items, *cluster));
+        best_pruned(&bases, lists_of(folded, &items, *cluster)) != by_bytes
     })
 }

@@ -20,9 +20,9 @@ pub enum Call {
     Allele { text: Vec<u8>, entry: usize, allele: usize },
     Normal { text: Vec<u8>, out: Vec<u8> },
     Plan { texts: [Vec<u8>; 2], plan: Vec<Cluster> },
-    Mark { scheme: u32, texts: [Vec<u8>; 2], plan: Vec<Cluster>, cluster: usize, marks: Vec<u8> },
+    Mark { texts: [Vec<u8>; 2], plan: Vec<Cluster>, cluster: usize, marks: Vec<u8> },
     Count { texts: [Vec<u8>; 2], marks: Vec<u8> },
-    MarkAll { scheme: u32, texts: [Vec<u8>; 2], plan: Vec<Cluster>, marks: Vec<u8> },
+    MarkAll { texts: [Vec<u8>; 2], plan: Vec<Cluster>, marks: Vec<u8> },
     Entries { texts: [Vec<u8>; 2], entries: Vec<Listed> },
     Version,
 }
@@ -65,14 +65,6 @@ impl Call {
         }
     }
 
-    /// The number of its scheme, where it takes one.
-    pub fn scheme(&self) -> Option<u32> {
-        match self {
-            Call::Mark { scheme, .. } | Call::MarkAll { scheme, .. } => Some(*scheme),
-            _ => None,
-        }
-    }
-
     /// How many lists it is lent.
     pub fn lists(&self) -> u32 {
         match self {
@@ -97,7 +89,7 @@ impl Case {
             Call::Allele { text, .. } => vec![("text", text.clone())],
             Call::Normal { text, out } => vec![("text", text.clone()), ("out", out.clone())],
             Call::Plan { texts, plan } => of_two(texts, [("plan", plan_bytes(plan))]),
-            Call::Mark { texts, plan, marks, .. } | Call::MarkAll { texts, plan, marks, .. } => {
+            Call::Mark { texts, plan, marks, .. } | Call::MarkAll { texts, plan, marks } => {
                 of_two(texts, [("plan", plan_bytes(plan)), ("marks", marks.clone())])
             }
             Call::Count { texts, marks } => of_two(texts, [("marks", marks.clone())]),
@@ -122,8 +114,7 @@ impl Case {
     pub fn numbers(&self) -> Vec<usize> {
         match self.call {
             Call::Allele { entry, allele, .. } => vec![entry, allele],
-            Call::Mark { scheme, cluster, .. } => vec![scheme as usize, cluster],
-            Call::MarkAll { scheme, .. } => vec![scheme as usize],
+            Call::Mark { cluster, .. } => vec![cluster],
             _ => Vec::new(),
         }
     }

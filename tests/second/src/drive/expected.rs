@@ -22,10 +22,9 @@ pub fn expected(reference: &[u8], name: &[u8], call: &Call) -> (Answer, Vec<Vec<
             let clusters = crate::plan(reference, name, first, second, &mut left);
             (Answer::of(clusters), vec![plan_bytes(&left)])
         }
-        Call::Mark { scheme, texts: [first, second], plan, cluster, marks } => {
+        Call::Mark { texts: [first, second], plan, cluster, marks } => {
             let mut left = marks.clone();
-            let marked =
-                crate::mark(*scheme, reference, name, first, second, plan, *cluster, &mut left);
+            let marked = crate::mark(reference, name, first, second, plan, *cluster, &mut left);
             let value = |marked| match marked {
                 Marked::Score(score) => score,
                 Marked::Undecided => UNDECIDED,
@@ -36,10 +35,9 @@ pub fn expected(reference: &[u8], name: &[u8], call: &Call) -> (Answer, Vec<Vec<
             let counts = crate::count(reference, name, first, second, marks);
             (counts.map_or_else(|refusal| Answer::refused(refusal, 6), Answer::counted), vec![])
         }
-        Call::MarkAll { scheme, texts: [first, second], plan, marks } => {
+        Call::MarkAll { texts: [first, second], plan, marks } => {
             let (mut plan, mut marks) = (plan.clone(), marks.clone());
-            let marked =
-                crate::mark_all(*scheme, reference, name, first, second, &mut plan, &mut marks);
+            let marked = crate::mark_all(reference, name, first, second, &mut plan, &mut marks);
             let given = |(clusters, score)| Answer::given(vec![clusters, score]);
             let answer = marked.map_or_else(|refusal| Answer::refused(refusal, 2), given);
             (answer, vec![plan_bytes(&plan), marks])

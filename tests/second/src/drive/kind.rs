@@ -7,7 +7,6 @@ use super::draw::{Asked, CALLS};
 use super::large;
 use super::lower_case::{all_beside, beside};
 use super::room;
-use super::weighed;
 use std::fmt::{self, Display};
 
 /// The call, the number and list of its answer and, where it is not refused, what it did; where it is refused for ALT, at which allele.
@@ -20,7 +19,7 @@ pub struct Kind {
 }
 
 /// The rows that concern a list's text or a line of it, and no allele of ALT.
-const OF_A_LIST: [u32; 13] = [3, 4, 5, 6, 7, 8, 9, 11, 12, 13, 14, 15, 24];
+const OF_A_LIST: [u32; 12] = [3, 4, 5, 6, 7, 8, 9, 11, 12, 13, 14, 15];
 
 /// What a call that is not refused can have done, with the list of its answer.
 type Answered = [(u32, &'static str)];
@@ -31,9 +30,9 @@ fn of_call(asked: Asked) -> (&'static str, &'static Answered, &'static [u32], u3
         Asked::Allele => ("allele", &OF_ALLELE, &[1, 18], 1),
         Asked::Normal => ("normal", &OF_NORMAL, &[1, 2], 1),
         Asked::Plan => ("plan", &OF_PLAN, &[1, 2], 2),
-        Asked::Mark => ("mark", &OF_MARK, &[1, 2, 16, 17, 32], 2),
+        Asked::Mark => ("mark", &OF_MARK, &[1, 2, 16, 17], 2),
         Asked::Count => ("count", &OF_COUNT, &[1, 2], 2),
-        Asked::MarkAll => ("mark_all", &OF_MARK_ALL, &[1, 2, 32], 2),
+        Asked::MarkAll => ("mark_all", &OF_MARK_ALL, &[1, 2], 2),
         Asked::Entries => ("entries", &OF_ENTRIES, &[1, 2], 2),
         Asked::Version => ("version", &OF_VERSION, &[], 0),
         Asked::Mutated => ("", &[], &[], 0),
@@ -66,11 +65,10 @@ fn kinds_of_small_lists() -> Vec<Kind> {
     CALLS.into_iter().flat_map(|(_, call)| kinds(call)).filter(is_small).collect()
 }
 
-/// What lower case, overlap, weights and schemes do in the calls of a run, each told as a kind.
+/// What lower case and overlap do in the calls of a run, each told as a kind.
 pub fn kinds_beside(asked: Asked) -> Vec<Kind> {
     if asked == Asked::Mutated {
-        let all = CALLS.into_iter().flat_map(|(_, call)| kinds_beside(call));
-        return all.filter(|kind| !weighed::is_aimed(kind.what)).collect();
+        return CALLS.into_iter().flat_map(|(_, call)| kinds_beside(call)).collect();
     }
     let (call, .., lists) = of_call(asked);
     let of_marks: &[&str] = match asked {
@@ -79,18 +77,16 @@ pub fn kinds_beside(asked: Asked) -> Vec<Kind> {
     };
     let of_marks = of_marks.iter().map(|what| (0, 0, *what));
     let kind = |(number, list, what)| Kind { call, number, list, what };
-    let weighed = weighed::all_beside(asked, lists);
-    all_beside(asked, lists).into_iter().chain(of_marks).chain(weighed).map(kind).collect()
+    all_beside(asked, lists).into_iter().chain(of_marks).map(kind).collect()
 }
 
 impl Kind {
-    /// What lower case, overlap, weights and the scheme do in the case.
+    /// What lower case and overlap do in the case.
     pub fn beside(case: &Case) -> Vec<Kind> {
         let call = Kind::of(case).call;
         let kind = |(number, list, what)| Kind { call, number, list, what };
         let of_marks = of_marks(case).into_iter().map(|what| (0, 0, what));
-        let weighed = weighed::beside(case);
-        beside(case).into_iter().chain(of_marks).chain(weighed).map(kind).collect()
+        beside(case).into_iter().chain(of_marks).map(kind).collect()
     }
 
     pub fn of(case: &Case) -> Kind {

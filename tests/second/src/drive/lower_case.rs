@@ -111,13 +111,13 @@ fn answered(case: &Case) -> Vec<&'static str> {
             note(FORMS, lists[0].forms_differ(case));
         }
         Call::Plan { .. } | Call::Entries { .. } => note(CLUSTERS, clusters_differ(case, &lists)),
-        Call::Mark { scheme, plan, cluster, .. } => {
+        Call::Mark { plan, cluster, .. } => {
             note(CLUSTERS, clusters_differ(case, &lists));
-            note(MARKS, marks_differ(*scheme, case, &lists, &[plan[*cluster]]));
+            note(MARKS, marks_differ(case, &lists, &[plan[*cluster]]));
         }
-        Call::MarkAll { scheme, .. } => {
+        Call::MarkAll { .. } => {
             note(CLUSTERS, clusters_differ(case, &lists));
-            note(MARKS, marks_differ(*scheme, case, &lists, &left_plan(case)));
+            note(MARKS, marks_differ(case, &lists, &left_plan(case)));
         }
         Call::Count { .. } | Call::Version => {}
     }

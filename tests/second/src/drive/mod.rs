@@ -8,14 +8,12 @@
 //! - `pipe` sends the cases to the driver and takes its answers
 //! - `kind` says what kind of answer a case has, with `answered` and `large` for what was done, and `at_allele` for the
 //!   allele that a refusal is told at; `lower_case` says what lower case does in it, with `by_bytes` for what it decides, and `room`
-//!   what overlapping entries do, and `weighed` what weights and the scheme do, with
-//!   `by_weight` for what they decide
+//!   what overlapping entries do
 //! - `tally` counts the kinds that were answered and keeps the smallest differences
 
 mod answered;
 pub mod at_allele;
 mod by_bytes;
-pub mod by_weight;
 pub mod case;
 pub mod draw;
 mod expected;
@@ -26,4 +24,3 @@ pub mod lower_case;
 pub mod pipe;
 pub mod room;
 pub mod tally;
-pub mod weighed;

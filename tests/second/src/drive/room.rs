@@ -40,10 +40,10 @@ pub fn found(
     found
 }
 
-/// The same of all marks of two lists, where both count; nothing where they are refused.
+/// The same of all marks of two lists; nothing where they are refused.
 pub fn found_in_all(reference: &[u8], name: &[u8], texts: [&[u8]; 2]) -> Vec<&'static str> {
     let (plan, marks) = (&mut [Cluster::default(); ENTRIES_MOST], &mut [0; ENTRIES_MOST]);
-    match crate::mark_all(0, reference, name, texts[0], texts[1], plan, marks) {
+    match crate::mark_all(reference, name, texts[0], texts[1], plan, marks) {
         Ok((clusters, _)) => found(reference, name, texts, &plan[..clusters as usize], marks),
         Err(_) => Vec::new(),
     }

@@ -3,7 +3,7 @@
 use super::case::{Case, Told};
 use super::draw::Asked;
 use super::kind::{kinds, kinds_beside, Kind};
-use super::{by_weight, room};
+use super::room::OF_MARKS;
 use std::collections::BTreeMap;
 use std::fmt::{self, Display};
 
@@ -12,8 +12,7 @@ use std::fmt::{self, Display};
 const ONCE_IN: u64 = 2_000;
 const ONCE_IN_MUTATED: u64 = 100_000;
 
-/// What overlap does is to come up more often, and so are marks that weights and the scheme decide: in a call that marks, and where
-/// bytes are changed.
+/// What overlap does is to come up more often: in a call that marks, and where bytes are changed.
 const OVERLAP_ONCE_IN: u64 = 60;
 const OVERLAP_ONCE_IN_MUTATED: u64 = 5_000;
 
@@ -28,7 +27,7 @@ const LINES_SHOWN: usize = 40;
 pub struct Tally {
     pub cases: u64,
     pub differences: u64,
-    /// How often each kind was answered, and each of those that lower case, overlap, weights and schemes add.
+    /// How often each kind was answered, and each of those that lower case and overlap add.
     kinds: BTreeMap<Kind, u64>,
     /// Of differences one behind the other only the first: the others may follow from it, where a
     /// buffer is lent as it was left.
@@ -60,8 +59,8 @@ impl Tally {
         self.smallest.truncate(SHOWN);
     }
 
-    /// The kinds of the call that were answered too rarely for so many calls to have tried them, and what lower case, overlap, weights
-    /// and schemes did too rarely.
+    /// The kinds of the call that were answered too rarely for so many calls to have tried them, and what lower case and overlap
+    /// did too rarely.
     pub fn rare_kinds(&self, asked: Asked) -> Vec<String> {
         let kinds = kinds(asked);
         let count = |kind: &Kind| self.kinds.get(kind).copied().unwrap_or(0);
@@ -70,10 +69,7 @@ impl Tally {
             Asked::Mutated => [ONCE_IN_MUTATED, OVERLAP_ONCE_IN_MUTATED],
             _ => [ONCE_IN, OVERLAP_ONCE_IN],
         };
-        let is_often = |kind: &Kind| {
-            room::OF_MARKS.contains(&kind.what) || by_weight::OFTEN.contains(&kind.what)
-        };
-        let is_rare = |kind: &&Kind| match is_often(kind) {
+        let is_rare = |kind: &&Kind| match OF_MARKS.contains(&kind.what) {
             true => count(kind) < all / overlap_once_in,
             false => count(kind) < all / once_in,
         };
@@ -91,7 +87,7 @@ impl Display for Tally {
         let kinds = kinds.join(", ");
         writeln!(
             out,
-            "answers by call, and by number/list and allele of ALT where refused, and what lower case, overlap, weights and schemes did: {kinds}"
+            "answers by call, and by number/list and allele of ALT where refused, and what lower case and overlap did: {kinds}"
         )
     }
 }

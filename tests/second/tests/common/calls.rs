@@ -41,45 +41,26 @@ impl Case {
         plan.iter().map(|cluster| (cluster.first, cluster.count)).collect()
     }
 
-    /// Asks for one cluster of `plan`, where both lists count.
+    /// Asks for one cluster of `plan`.
     pub fn mark(
         &self,
         plan: &[Cluster],
         cluster: usize,
         marks: &mut [u8],
     ) -> Result<Marked, Refusal> {
-        self.mark_in(0, plan, cluster, marks)
-    }
-
-    /// The same in this scheme.
-    pub fn mark_in(
-        &self,
-        scheme: u32,
-        plan: &[Cluster],
-        cluster: usize,
-        marks: &mut [u8],
-    ) -> Result<Marked, Refusal> {
-        let (reference, first, second) = (&self.reference, &self.first, &self.second);
         let mut lent = plan.to_vec();
         lent.resize(1_024, OLD_CLUSTER);
-        second::mark(scheme, reference, NAME, first, second, &lent, cluster, marks)
+        second::mark(&self.reference, NAME, &self.first, &self.second, &lent, cluster, marks)
     }
 
-    /// All marks and the summed score, where both lists count. The plan left must be that of `plan`, and the marks behind the
+    /// All marks and the summed score. The plan left must be that of `plan`, and the marks behind the
     /// last entry's must keep their values.
     pub fn marks(&self) -> Result<(String, u32), Refusal> {
-        self.marks_in(0)
-    }
-
-    /// The same in this scheme.
-    pub fn marks_in(&self, scheme: u32) -> Result<(String, u32), Refusal> {
         let (mut plan, mut marks) = (vec![OLD_CLUSTER; 1_024], vec![OLD_MARK; 1_024]);
         let (reference, first, second) = (&self.reference, &self.first, &self.second);
-        let done = second::mark_all(scheme, reference, NAME, first, second, &mut plan, &mut marks);
+        let done = second::mark_all(reference, NAME, first, second, &mut plan, &mut marks);
         let plan = keep_written(plan, done.map(|(count, _)| count as usize), OLD_CLUSTER);
-        if scheme < 3 {
-            assert_eq!(plan, self.plan());
-        }
+        assert_eq!(plan, self.plan());
         let entries = plan.map(|plan| plan.iter().map(|cluster| cluster.count as usize).sum());
         let marks = keep_written(marks, entries, OLD_MARK)?;
         Ok((String::from_utf8(marks).expect("marks are ASCII"), done?.1))

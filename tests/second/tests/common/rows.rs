@@ -1,4 +1,4 @@
-//! The rows of document 01 and of requests a, b and e that can hold in a list text, each said as a predicate.
+//! The rows of document 01 and of requests a and b that can hold in a list text, each said as a predicate.
 //!
 //! Written apart from the reader: nothing here is told what the reader found or how it goes about it.
 
@@ -8,7 +8,7 @@ use super::lists::{COLUMN_LINE, VERSION_LINE};
 pub type Row = (u32, usize);
 
 /// The rows that can hold on a line, in the order they are tried.
-pub const ON_A_LINE: [Row; 19] = [
+pub const ON_A_LINE: [Row; 18] = [
     (4, 0),
     (5, 0),
     (15, 0),
@@ -25,7 +25,6 @@ pub const ON_A_LINE: [Row; 19] = [
     (23, 2),
     (11, 0),
     (12, 0),
-    (24, 0),
     (13, 0),
     (14, 0),
 ];
@@ -111,7 +110,6 @@ impl<'a> Lines<'a> {
                 format.split(|byte| *byte == b':').next() != Some(b"GT") || !is_known
             }
             12 => until_colon == b"0/0" || until_colon == b"0|0",
-            24 => !is_info(fields[7]),
             _ => {
                 let start = pos(fields[1]).expect("row 8 was tried before") - 1;
                 let there = self.reference.get(start..start + reference.len());
@@ -132,13 +130,6 @@ fn alt_row_holds(row: u32, allele: usize, line: &[u8]) -> bool {
         22 => bytes.eq_ignore_ascii_case(fields[3]),
         _ => bytes.eq_ignore_ascii_case(alleles[0]),
     }
-}
-
-/// No part gives a weight, or one does, and it is written as one of 0 to 1,000 is.
-fn is_info(info: &[u8]) -> bool {
-    let mut given = info.split(|byte| *byte == b';').filter(|part| part.starts_with(b"CW="));
-    let is_weight = |part| (0..=1_000).any(|weight| format!("CW={weight}").as_bytes() == part);
-    given.next().is_none_or(is_weight) && given.next().is_none()
 }
 
 /// All of ALT, or what stands before its first comma and what stands behind that.

@@ -8,7 +8,7 @@ use lib.Dec.{lit<}
 use lib.ListN.{length, replicate}
 use seplogic.Ra.Ura.{Ura}
 use seplogic.Ra.TreeShare.{full_share}
-use mir.Syntax.{Ty, named, erased, mut, w8, w32, ty_int, ty_ref}
+use mir.Syntax.{Ty, named, erased, mut, w8, ty_int, ty_ref}
 use mir.Val.{Val, vstruct, of_list}
 use base.Logic.{SProp, ent, emp, id⊢, via, fst∗}
 use base.Fml.{Lft, GName, Share, fat, froom, fdies, flft}
@@ -24,10 +24,9 @@ use types.Run.{look, init, stop, hop, fld, from, load, addr, lit, of_opd, and_th
 use types.Part.{agg, rep, whole, sub, look_in}
 use sound.WpLaws.{fm_of, WpFn-mono}
 use denote.Array.{Array, array_val, Array-Lawful}
-use denote.Builtin.{u8, u32}
+use denote.Builtin.{u8}
 use denote.Laws.{Is}
 use denote.Memory.{pointee}
-use denote.Plain.{uint_Makes}
 use denote.RattleType.{RattleType, owns}
 use denote.Ref.{MutBor}
 use denote.Slice.{slice_ty, slice_val, MutSlice, Room, shr_slice_vals, mut_slice_vals, mut_slice_Tells, shr_slice_Tells}
@@ -44,7 +43,6 @@ use Rattle.clusters.proofs.Leaving.{leaves}
 use Rattle.clusters.proofs.PlanSteps.{R, none, made, text}
 use Rattle.clusters.specs.contracts.plan.Cluster as Cluster'
 use Rattle.clusters.proofs.plan.Cluster.TheLaws as Cluster''
-use Rattle.matching.specs.Scheme.{both_lists}
 use Rattle.card.specs.declared.all.AllMarked.{AllMarked}
 use Rattle.card.specs.declared.all.MarkedLists.{MarkedLists}
 use Rattle.card.specs.All.{all_answered, empty_plan, all_plan, all_bytes}
@@ -53,7 +51,7 @@ use Rattle.card.proofs.AllSteps.{Plan, Said, Ghost, passed as all-passed}
 use Rattle.card.proofs.ArraySteps.{array, spelled, repeated, lends_array, array_back, as_field}
 use Rattle.card.proofs.CallSteps.{big_lit, all_told, told_go, Ends}
 use Rattle.card.proofs.ListSteps.{Refs, vals, Texts, texts}
-use Rattle.card.proofs.Passing.{beyond, local}
+use Rattle.card.proofs.Passing.{local}
 use Rattle.card.specs.contracts.all.AllMarked as AllMarked'
 use Rattle.card.proofs.all.AllMarked.TheLaws as AllMarked''
 use Rattle.card.specs.contracts.all.MarkedLists as MarkedLists'
@@ -121,7 +119,7 @@ module _ {M : Type 1} {𝓤 : Ura M} (𝓛 : Logic 𝓤) (mem : Memory → SProp
   lent l δ = record { ref_ptr = (l, 0); ghost_name = δ; now = ys }
 
   abbrev to-all : ℕ → ℕ → GName → Ghost 𝓛 mem run
-  to-all l ν δ = all-passed 𝓛 mem run κs (ν ∷ []) κ qs full_share q both_lists xs (lent l δ) m
+  to-all l ν δ = all-passed 𝓛 mem run κs (ν ∷ []) κ qs full_share q xs (lent l δ) m
 
   -- the struct that is returned
   abbrev both : AllMarked → List Cluster → MarkedLists
@@ -132,12 +130,12 @@ module _ {M : Type 1} {𝓤 : Ura M} (𝓛 : Logic 𝓤) (mem : Memory → SProp
   is-both r v zs is there = ((v ∷ [], (spelled zs ∷ [], tt)), (refl, (is, (as_field least_room zs there, tt))))
 
   exits : (l : ℕ) (δ : GName) (r : AllMarked) (v : Val) (zs : List Cluster) (ms : List ℕ) → Is MarkedLists'.the_row (both r zs) (vstruct (of_list (v ∷ spelled zs ∷ [])) ∷ [])
-      → Said both_lists xs (lent l δ) m r zs ms
+      → Said xs (lent l δ) m r zs ms
       → ent 𝓤 (⋆ 𝓛 (raw (toks 𝓛 4 κs qs) ∷ ‵ (flft κ q) ∷ ‵ (Ends u8 m ms) ∷ [])) (Post (vstruct (of_list (v ∷ spelled zs ∷ []))))
   exits l δ r v zs ms good e =
-      let first = e.0 ∙ ap (λ (n : ℕ). all_answered both_lists xs.0.now xs.1.0.now xs.1.1.0.now xs.1.1.1.0.now n (length m.now)) len in
-      let second = e.1 ∙ ap (λ (l : List Cluster). all_plan both_lists xs.0.now xs.1.0.now xs.1.1.0.now xs.1.1.1.0.now l m.now) ys-are in
-      let third = e.2 ∙ ap (λ (l : List Cluster). all_bytes both_lists xs.0.now xs.1.0.now xs.1.1.0.now xs.1.1.1.0.now l m.now) ys-are in
+      let first = e.0 ∙ ap (λ (n : ℕ). all_answered xs.0.now xs.1.0.now xs.1.1.0.now xs.1.1.1.0.now n (length m.now)) len in
+      let second = e.1 ∙ ap (λ (l : List Cluster). all_plan xs.0.now xs.1.0.now xs.1.1.0.now xs.1.1.1.0.now l m.now) ys-are in
+      let third = e.2 ∙ ap (λ (l : List Cluster). all_bytes xs.0.now xs.1.0.now xs.1.1.0.now xs.1.1.1.0.now l m.now) ys-are in
       qed 𝓛 (raw (toks 𝓛 4 κs qs) ∷ ‵ (flft κ q) ∷ ‵ (Ends u8 m ms) ∷ []) ∵
       suffices ! _ (ends_at 𝓛 marked-lists.ended stayed (marked-lists.clauses 𝓛 mem run) passed (vstruct (of_list (v ∷ spelled zs ∷ []))) (both r zs) (tt, (tt, (tt, (tt, (ms, tt)))))
       (tt, (tt, (tt, (tt, (tt, tt)))))) $ says ! (first, second, third) $
@@ -181,29 +179,28 @@ module _ {M : Type 1} {𝓤 : Ura M} (𝓛 : Logic 𝓤) (mem : Memory → SProp
         move ! (3 ∷ 1 ∷ []) $
         use2 𝓛 (‵ (owns (Texts κs ++ (Plan (ν ∷ []) ∷ [])) (last_in (Texts κs) (Plan (ν ∷ [])) xs (lent l₆ δ)) (last_vals (Texts κs) (Plan (ν ∷ [])) (vals xs) (shr_slice_vals (lent l₆ δ)))))
         (last_in_lem 𝓛 (Plan (ν ∷ [])) (lent l₆ δ) (shr_slice_vals (lent l₆ δ)) (Texts κs) xs (vals xs)) $
-        move ! (0 ∷ 3 ∷ []) $ use2 𝓛 (‵ (owns ((Texts κs ++ (Plan (ν ∷ []) ∷ [])) ++ (Marks ∷ [])) (to-all l₆ ν δ).0.3.1 (to-all l₆ ν δ).0.4.1))
+        move ! (0 ∷ 3 ∷ []) $ use2 𝓛 (‵ (owns ((Texts κs ++ (Plan (ν ∷ []) ∷ [])) ++ (Marks ∷ [])) (to-all l₆ ν δ).0.3 (to-all l₆ ν δ).0.4))
         (last_in_lem 𝓛 Marks m (shr_slice_vals m) (Texts κs ++ (Plan (ν ∷ []) ∷ [])) (last_in (Texts κs) (Plan (ν ∷ [])) xs (lent l₆ δ))
-        (last_vals (Texts κs) (Plan (ν ∷ [])) (vals xs) (shr_slice_vals (lent l₆ δ)))) $
-        owned ! u32 (Is u32) (uint_Makes 𝓛 w32) both_lists _ (refl, lit< tt) $ fjoin ! $ move ! (1 ∷ 0 ∷ []) $
+        (last_vals (Texts κs) (Plan (ν ∷ [])) (vals xs) (shr_slice_vals (lent l₆ δ)))) $ move ! (1 ∷ 0 ∷ []) $
         -- [the tokens; what is passed; what the lender keeps; _13; …; _7; …; _6's end; _5; …]
         asks_lent ! (fm_of 𝓤 H 𝓛.laws 𝓣) mark-all.ended (mark-all.clauses 𝓛 mem run) known (to-all l₆ ν δ) (id⊢ 𝓤 (emp 𝓤))
-        (λ r ws. Said both_lists xs (lent l₆ δ) m r ws.1.1.1.1.1.0 ws.1.1.1.1.1.1.0) (λ r ws. refl)
-        (and_then ! (lit ! tt) (and_then ! (local ! 25 refl)
-        (and_then ! (local ! 23 refl) (and_then ! (local ! 21 refl) (and_then ! (local ! 19 refl) (and_then ! (local ! 8 refl) (and_then ! (local ! 4 refl) (no_more !)))))))) (λ r v is ws e.
+        (λ r ws. Said xs (lent l₆ δ) m r ws.1.1.1.1.0 ws.1.1.1.1.1.0) (λ r ws. refl)
+        (and_then ! (local ! 25 refl)
+        (and_then ! (local ! 23 refl) (and_then ! (local ! 21 refl) (and_then ! (local ! 19 refl) (and_then ! (local ! 8 refl) (and_then ! (local ! 4 refl) (no_more !))))))) (λ r v is ws e.
         land ! (from ! (stop !)) (init ! 15 refl ((LL.lawful AllMarked'.the_type AllMarked''.the_laws 𝓛).typed r _ is).0) $
         -- what was lent comes back: [the records' last list; the marks'; …; the tokens; what the lender keeps; _13; …]
-        move ! (1 ∷ []) $ beyond ! $ fsplit3 ! $ drop ! $ drop ! $ fsplit3 ! $ drop ! $ drop ! $ fsplit3 ! $ fsplit ! $ move ! (4 ∷ []) $
+        move ! (1 ∷ []) $ fsplit3 ! $ drop ! $ drop ! $ fsplit3 ! $ drop ! $ drop ! $ fsplit3 ! $ fsplit ! $ move ! (4 ∷ []) $
         use1 𝓛 (raw (toks 𝓛 5 (last_lft 4 κs (ν ∷ [])) (last_share 4 qs full_share)) ⊛ ‵ (flft κ q)) (token_out 𝓛 κ q 5 (last_lft 4 κs (ν ∷ [])) (last_share 4 qs full_share)) $ split ! $
         use1 𝓛 (raw (toks 𝓛 4 κs qs) ⊛ ‵ (flft (ν ∷ []) full_share)) (token_out 𝓛 (ν ∷ []) full_share 4 κs qs) $ split ! $ move ! (1 ∷ 7 ∷ 3 ∷ []) $
-        array_back ! tt least_room ws.1.1.1.1.1.0 l₆ ν δ (λ there.
+        array_back ! tt least_room ws.1.1.1.1.0 l₆ ν δ (λ there.
         -- [_6; the texts' tokens; the marks' token; …; the marks; …; _13; …; _7; …; _6's end; _5; …]
         assigns ! (of_opd ! (local ! 0 refl)) (from ! (stop !))
-        (init ! 6 refl ((Array-Lawful 𝓛 R (LL.lawful Cluster'.the_type Cluster''.the_laws 𝓛) least_room).typed ws.1.1.1.1.1.0 _ there).0) $
+        (init ! 6 refl ((Array-Lawful 𝓛 R (LL.lawful Cluster'.the_type Cluster''.the_laws 𝓛) least_room).typed ws.1.1.1.1.0 _ there).0) $
         assigns ! (agg ! (and_then ! (local ! 18 refl) (and_then ! (local ! 6 refl) (no_more !)))) (from ! (stop !))
-        (init ! 31 refl ((LL.lawful MarkedLists'.the_type MarkedLists''.the_laws 𝓛).typed (both r ws.1.1.1.1.1.0) _ (is-both r v ws.1.1.1.1.1.0 is there)).0) $
+        (init ! 31 refl ((LL.lawful MarkedLists'.the_type MarkedLists''.the_laws 𝓛).typed (both r ws.1.1.1.1.0) _ (is-both r v ws.1.1.1.1.0 is there)).0) $
         returns ! (look ! 31 refl) $ move ! (31 ∷ 32 ∷ 29 ∷ 30 ∷ 27 ∷ 28 ∷ 25 ∷ 26 ∷ 23 ∷ 24 ∷ 21 ∷ 22 ∷ 0 ∷ 20 ∷ 18 ∷ 19 ∷ 16 ∷ 17 ∷ 14 ∷ 15 ∷ 12 ∷ 13 ∷ 10 ∷ 11 ∷ 8 ∷ 9 ∷ 6 ∷ 7 ∷ []) $
         leaves ! En (held _ ∷ held _ ∷ held _ ∷ held _ ∷ held _ ∷ held _ ∷ held _ ∷ held _ ∷ held _ ∷ held _ ∷ held _ ∷ held _ ∷ held _ ∷ held _ ∷ []) $
-        keep ! (0 ∷ 1 ∷ 3 ∷ []) $ by ! (exits l₆ δ r v ws.1.1.1.1.1.0 ws.1.1.1.1.1.1.0 (is-both r v ws.1.1.1.1.1.0 is there) e))))
+        keep ! (0 ∷ 1 ∷ 3 ∷ []) $ by ! (exits l₆ δ r v ws.1.1.1.1.0 ws.1.1.1.1.1.0 (is-both r v ws.1.1.1.1.0 is there) e))))
 
   walk : (𝓣 : Tables 𝓤 H) → Triple 𝓤 (𝓣.C mark-all-def.name) (All 𝓛 mem run)
       → ent 𝓤 (on_entry 𝓛 marked-lists.signature passed.0.0 passed.0.1 passed.0.3 passed.0.4)

@@ -1,4 +1,4 @@
--- `card::mark::mark_planned` meets its contract: it answers what is told of the asked cluster. A cluster's score is at most 12,000, so it fits 32 bits.
+-- `card::mark::mark_planned` meets its contract: it answers what is told of the asked cluster. A score is at most the number of entries, so it fits 32 bits.
 -- Assumes nothing.
 use mathlib.Core.Path.{ap, ◌∙◌}
 use native.Mathlib.Omega.{arith}
@@ -7,8 +7,7 @@ use borrow.Author.Tests.{not-true, not-false}
 use Rattle.bases.specs.Letter.{bases_of}
 use Rattle.marks.specs.declared.mark.Marked.{Marked}
 use Rattle.marks.specs.Marks.{clusters_of}
-use Rattle.clusters.proofs.CardClusters.{clusters_light}
-use Rattle.marks.proofs.MarkLaws.{ready_items}
+use Rattle.clusters.proofs.CardClusters.{clusters_plain}
 use Rattle.card.proofs.ScoreLaws.{asked_score}
 use Rattle.card.proofs.mark.mark_planned.Statement.{statement}
 use Rattle.card.proofs.mark.mark_planned.Tie as tie
@@ -28,7 +27,7 @@ refuse-requires-2 : tie.Need-refuse-requires-2
 refuse-requires-2 c κs = search rules
 
 same_length : tie.Need-same-length
-same_length c = c.before.before.before.before.before.mark-one.auto.1.1.1.1.1.0
+same_length c = c.before.before.before.before.before.mark-one.auto.1.1.1.1.0
 
 returns-2 : tie.Need-returns-2
 returns-2 c =
@@ -42,7 +41,7 @@ give-requires : tie.Need-give-requires
 give-requires c κs = search rules
 
 same-length-2 : tie.Need-same-length-2
-same-length-2 c = c.before.before.before.before.before.before.before.mark-one.auto.1.1.1.1.1.0
+same-length-2 c = c.before.before.before.before.before.before.before.mark-one.auto.1.1.1.1.0
 
 returns-3 : tie.Need-returns-3
 returns-3 c =
@@ -56,19 +55,18 @@ returns-3 c =
 cast-give : tie.Need-overflow-cast-give
 cast-give c =
     let a = c.before.before.before.before.before.before.before.before.before.before.before.before.before.before.args in
-    let p = c.before.before.before.before.before.before.before.before.before.before.before.before.before.before.requires in
     let e = ap (λ (m : Marked). m.score) c.before.before.before.before.before.before.before.mark-one.ensures.0 in
     omega (
       arith,
-      asked_score a.scheme (bases_of a.reference.now) (clusters_of (bases_of a.reference.now) a.first.now a.second.now)
-          (clusters_light (bases_of a.reference.now) a.first.now a.second.now (ready_items (bases_of a.reference.now) a.first.now a.second.now p.0)) a.cluster,
+      asked_score (bases_of a.reference.now) (clusters_of (bases_of a.reference.now) a.first.now a.second.now)
+          (clusters_plain (bases_of a.reference.now) a.first.now a.second.now) a.cluster,
     )
 
 give-requires-2 : tie.Need-give-requires-2
 give-requires-2 c κs = search rules
 
 same-length-3 : tie.Need-same-length-3
-same-length-3 c = c.before.before.before.before.before.before.before.before.mark-one.auto.1.1.1.1.1.0
+same-length-3 c = c.before.before.before.before.before.before.before.before.mark-one.auto.1.1.1.1.0
 
 returns-4 : tie.Need-returns-4
 returns-4 c =

@@ -4,8 +4,8 @@ use mathlib.Core.List.{[], ◌∷◌}
 use mathlib.Core.Path.{refl}
 use lib.Dec.{T}
 use seplogic.Ra.Ura.{Ura}
-use mir.Syntax.{named, w32}
-use mir.Val.{Val, vint, WT, has_ty}
+use mir.Syntax.{named}
+use mir.Val.{Val, WT, has_ty}
 use base.Logic.{SProp}
 use prog.Memory.{Memory}
 use prog.Routine.{Routine}
@@ -19,7 +19,6 @@ use types.Run.{look, init, stop, hop, fld, from, load, addr, and_then, no_more, 
 use types.Part.{agg, whole, sub, look_in}
 use sound.WpLaws.{fm_of}
 use denote.Builtin.{u8}
-use denote.Plain.{uint_vals, uint_Tells}
 use denote.Slice.{shr_slice_vals, mut_slice_Tells, shr_slice_Tells}
 use denote.Struct.Laws as LL
 use denote.Triple.Entry.{Args, Vals}
@@ -45,11 +44,8 @@ MarkAll 𝓛 mem run = triple_of 𝓛 mark-all.signature (mark-all.spec 𝓛 mem
 
 abbrev vals : (κs : Lfts 6) → Args mark-all.signature κs → Vals mark-all.signature κs
 vals κs a = (
-  vint w32 a.0 ∷ [],
-  (
-    shr_slice_vals a.1.0,
-    (shr_slice_vals a.1.1.0, (shr_slice_vals a.1.1.1.0, (shr_slice_vals a.1.1.1.1.0, (shr_slice_vals a.1.1.1.1.1.0, (shr_slice_vals a.1.1.1.1.1.1.0, tt))))),
-  ),
+  shr_slice_vals a.0,
+  (shr_slice_vals a.1.0, (shr_slice_vals a.1.1.0, (shr_slice_vals a.1.1.1.0, (shr_slice_vals a.1.1.1.1.0, (shr_slice_vals a.1.1.1.1.1.0, tt))))),
 )
 
 abbrev Fine : Val → Type 0
@@ -62,44 +58,39 @@ module _ {M : Type 1} {𝓤 : Ura M} (𝓛 : Logic 𝓤) (mem : Memory → SProp
   card-mark-all-meets : Meets 𝓛 card-mark-all.signature (WpFn 𝓤 H 𝓣.C 𝓣.Λ code.function) (card-mark-all.spec 𝓛 mem run)
   card-mark-all-meets =
       handed_meets 𝓛 mark-all.ended (mark-all.clauses 𝓛 mem run) (WpFn 𝓤 H 𝓣.C 𝓣.Λ code.function)
-      (λ κs. (uint_vals w32, (shr_slice_vals, (shr_slice_vals, (shr_slice_vals, (shr_slice_vals, (shr_slice_vals, (shr_slice_vals, tt))))))))
+      (λ κs. (shr_slice_vals, (shr_slice_vals, (shr_slice_vals, (shr_slice_vals, (shr_slice_vals, (shr_slice_vals, tt)))))))
       (λ κs. (
-        uint_Tells w32,
+        shr_slice_Tells (named 0) κs.0 u8,
         (
-          shr_slice_Tells (named 0) κs.0 u8,
+          shr_slice_Tells (named 1) κs.1.0 u8,
           (
-            shr_slice_Tells (named 1) κs.1.0 u8,
-            (
-              shr_slice_Tells (named 2) κs.1.1.0 u8,
-              (shr_slice_Tells (named 3) κs.1.1.1.0 u8, (mut_slice_Tells (named 4) κs.1.1.1.1.0 R, (mut_slice_Tells (named 5) κs.1.1.1.1.1.0 u8, tt))),
-            ),
+            shr_slice_Tells (named 2) κs.1.1.0 u8,
+            (shr_slice_Tells (named 3) κs.1.1.1.0 u8, (mut_slice_Tells (named 4) κs.1.1.1.1.0 R, (mut_slice_Tells (named 5) κs.1.1.1.1.1.0 u8, tt))),
           ),
         ),
       ))
       (λ κs qs bounds a g are.
       qed 𝓛 (raw ((MarkAll 𝓛 mem run).pre ((κs, qs, bounds, a, vals κs a), g)) ∷ []) ∵ enter ! 𝓣.C 𝓣.Λ code.function _ _ $
       alloc1 ! (λ l₀. alloc1 !
-      (λ l₁. alloc1 ! (λ l₂. alloc1 ! (λ l₃. alloc1 ! (λ l₄. alloc1 ! (λ l₅. alloc1 ! (λ l₆. alloc1 ! (λ l₇. alloc1 ! (λ l₈. alloc1 ! (λ l₉. alloc1 ! (λ l₁₀. alloc1 ! (λ l₁₁. alloc0 ! $ params1 ! $
-      pass1 ! (init ! 20 refl (tt, record { fits = are.0.1 })) $
-      pass1 ! (init ! 18 refl (tt, (tt, (record { fits = are.1.0.0.1.0 }, tt)))) $ pass1 ! (init ! 16 refl (tt, (tt, (record { fits = are.1.1.0.0.1.0 }, tt)))) $
-      pass1 ! (init ! 14 refl (tt, (tt, (record { fits = are.1.1.1.0.0.1.0 }, tt)))) $ pass1 ! (init ! 12 refl (tt, (tt, (record { fits = are.1.1.1.1.0.0.1.0 }, tt)))) $
-      pass1 ! (init ! 10 refl (tt, (tt, (record { fits = are.1.1.1.1.1.0.0.1.0 }, tt)))) $ pass1 ! (init ! 8 refl (tt, (tt, (record { fits = are.1.1.1.1.1.1.0.0.1.0 }, tt)))) $ pass0 ! $
-      move ! (24 ∷ []) $
-      -- [what is passed; _11; …; _0; …]
+      (λ l₁. alloc1 ! (λ l₂. alloc1 ! (λ l₃. alloc1 ! (λ l₄. alloc1 ! (λ l₅. alloc1 ! (λ l₆. alloc1 ! (λ l₇. alloc1 ! (λ l₈. alloc1 ! (λ l₉. alloc1 ! (λ l₁₀. alloc0 ! $ params1 ! $
+      pass1 ! (init ! 18 refl (tt, (tt, (record { fits = are.0.0.1.0 }, tt)))) $ pass1 ! (init ! 16 refl (tt, (tt, (record { fits = are.1.0.0.1.0 }, tt)))) $
+      pass1 ! (init ! 14 refl (tt, (tt, (record { fits = are.1.1.0.0.1.0 }, tt)))) $ pass1 ! (init ! 12 refl (tt, (tt, (record { fits = are.1.1.1.0.0.1.0 }, tt)))) $
+      pass1 ! (init ! 10 refl (tt, (tt, (record { fits = are.1.1.1.1.0.0.1.0 }, tt)))) $ pass1 ! (init ! 8 refl (tt, (tt, (record { fits = are.1.1.1.1.1.0.0.1.0 }, tt)))) $ pass0 ! $
+      move ! (22 ∷ []) $
+      -- [what is passed; _10; …; _0; …]
       assigns ! (addr ! (from ! (fld ! refl (hop ! (look_in ! 11 (sub ! 0 refl (whole !))) (stop !))))) (from ! (stop !)) (init ! 7 refl (tt, tt)) $
       assigns ! (agg ! (and_then ! (local ! 7 refl) (and_then ! (load ! (from ! (fld ! refl (stop !))) (look_in ! 11 (sub ! 1 refl (whole !)))) (no_more !)))) (from ! (stop !))
-      (init ! 5 refl (tt, (tt, (record { fits = are.1.1.1.1.1.0.0.1.0 }, tt)))) $
+      (init ! 5 refl (tt, (tt, (record { fits = are.1.1.1.1.0.0.1.0 }, tt)))) $
       assigns ! (addr ! (from ! (fld ! refl (hop ! (look_in ! 9 (sub ! 0 refl (whole !))) (stop !))))) (from ! (stop !)) (init ! 3 refl (tt, tt)) $
       assigns ! (agg ! (and_then ! (local ! 3 refl) (and_then ! (load ! (from ! (fld ! refl (stop !))) (look_in ! 9 (sub ! 1 refl (whole !)))) (no_more !)))) (from ! (stop !))
-      (init ! 1 refl (tt, (tt, (record { fits = are.1.1.1.1.1.1.0.0.1.0 }, tt)))) $
+      (init ! 1 refl (tt, (tt, (record { fits = are.1.1.1.1.1.0.0.1.0 }, tt)))) $
       hands_on ! (fm_of 𝓤 H 𝓛.laws 𝓣) mark-all.ended (mark-all.clauses 𝓛 mem run) known ((κs, qs, bounds, a, vals κs a), g) Fine
       (λ r v is. ((LL.lawful AllMarked'.the_type AllMarked''.the_laws 𝓛).typed r _ is).0)
-      (and_then ! (local ! 21 refl)
       (and_then ! (local ! 19 refl)
-      (and_then ! (local ! 17 refl) (and_then ! (local ! 15 refl) (and_then ! (local ! 13 refl) (and_then ! (local ! 5 refl) (and_then ! (local ! 1 refl) (no_more !)))))))) (λ v fine.
-      land ! (from ! (stop !)) (init ! 23 refl fine) $ returns ! (look ! 23 refl) $
-      move ! (23 ∷ 24 ∷ 21 ∷ 22 ∷ 19 ∷ 20 ∷ 17 ∷ 18 ∷ 15 ∷ 16 ∷ 13 ∷ 14 ∷ 11 ∷ 12 ∷ 9 ∷ 10 ∷ 7 ∷ 8 ∷ 5 ∷ 6 ∷ 3 ∷ 4 ∷ 1 ∷ 2 ∷ []) $
-      gone1 ! $ gone1 ! $ gone1 ! $ gone1 ! $ gone1 ! $ gone1 ! $ gone1 ! $ gone1 ! $ gone1 ! $ gone1 ! $ gone1 ! $ gone1 ! $ free0 ! $ done !))))))))))))))
+      (and_then ! (local ! 17 refl) (and_then ! (local ! 15 refl) (and_then ! (local ! 13 refl) (and_then ! (local ! 5 refl) (and_then ! (local ! 1 refl) (no_more !))))))) (λ v fine.
+      land ! (from ! (stop !)) (init ! 21 refl fine) $ returns ! (look ! 21 refl) $
+      move ! (21 ∷ 22 ∷ 19 ∷ 20 ∷ 17 ∷ 18 ∷ 15 ∷ 16 ∷ 13 ∷ 14 ∷ 11 ∷ 12 ∷ 9 ∷ 10 ∷ 7 ∷ 8 ∷ 5 ∷ 6 ∷ 3 ∷ 4 ∷ 1 ∷ 2 ∷ []) $
+      gone1 ! $ gone1 ! $ gone1 ! $ gone1 ! $ gone1 ! $ gone1 ! $ gone1 ! $ gone1 ! $ gone1 ! $ gone1 ! $ gone1 ! $ free0 ! $ done !)))))))))))))
 
 pub card-mark-all-spec : {M : Type 1} → stated.statement M
 unfolding code.routine tables_of

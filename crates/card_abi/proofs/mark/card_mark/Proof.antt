@@ -47,9 +47,8 @@ module _ {M : Type 1} {𝓤 : Ura M} (𝓛 : Logic 𝓤) (mem : Memory → SProp
   walk κs qs a counts =
       let vss = (passed 𝓛 mem run κs qs a).0.4 in
       qed 𝓛 (raw (toks 𝓛 6 κs qs) ∷ ‵ (owns (Params κs) a vss) ∷ []) ∵ enter ! 𝓣.C 𝓣.Λ code.function _ _ $
-      alloc1 ! (λ l₀. alloc1 ! (λ l₁. alloc1 ! (λ l₂. alloc1 ! (λ l₃. alloc1 ! (λ l₄. alloc1 ! (λ l₅. alloc1 ! (λ l₆. alloc1 ! (λ l₇. alloc1 ! (λ l₈. alloc1 ! (λ l₉. alloc1 ! (λ l₁₀. alloc0 ! $ params1 ! $
-      -- [_10; …; _0; …; the tokens; what the parameters own]
-      pass1 ! (init ! 18 refl (tt, record { fits = counts.scheme })) $
+      alloc1 ! (λ l₀. alloc1 ! (λ l₁. alloc1 ! (λ l₂. alloc1 ! (λ l₃. alloc1 ! (λ l₄. alloc1 ! (λ l₅. alloc1 ! (λ l₆. alloc1 ! (λ l₇. alloc1 ! (λ l₈. alloc1 ! (λ l₉. alloc0 ! $ params1 ! $
+      -- [_9; …; _0; …; the tokens; what the parameters own]
       pass1 ! (init ! 16 refl (tt, (tt, (record { fits = counts.reference }, tt)))) $ pass1 ! (init ! 14 refl (tt, (tt, (record { fits = counts.name }, tt)))) $
       pass1 ! (init ! 12 refl (tt, (tt, (record { fits = counts.first }, tt)))) $ pass1 ! (init ! 10 refl (tt, (tt, (record { fits = counts.second }, tt)))) $
       pass1 ! (init ! 8 refl (tt, (tt, (record { fits = counts.plan }, tt)))) $ pass1 ! (init ! 6 refl (tt, record { fits = counts.cluster })) $
@@ -57,19 +56,18 @@ module _ {M : Type 1} {𝓤 : Ura M} (𝓛 : Logic 𝓤) (mem : Memory → SProp
       assigns ! (addr ! (from ! (fld ! refl (hop ! (look_in ! 4 (sub ! 0 refl (whole !))) (stop !))))) (from ! (stop !)) (init ! 2 refl (tt, tt)) $
       assigns ! (agg ! (and_then ! (local ! 2 refl) (and_then ! (load ! (from ! (fld ! refl (stop !))) (look_in ! 4 (sub ! 1 refl (whole !)))) (no_more !)))) (from ! (stop !))
       (init ! 0 refl (tt, (tt, (record { fits = counts.marks }, tt)))) $
-      move ! (23 ∷ []) $ parts_out 𝓛 (Params κs) a vss $ move ! (30 ∷ []) $ tokens_out 𝓛 6 κs qs $
-      passes 𝓛 mark.ended (mark.clauses 𝓛 mem run) (passed 𝓛 mem run κs qs a) ! (fm_of 𝓤 H 𝓛.laws 𝓣) known (id⊢ 𝓤 (emp 𝓤)) (λ (b : Answer) ws. Said κs a b ws.1.1.1.1.1.1.1.0)
+      move ! (21 ∷ []) $ parts_out 𝓛 (Params κs) a vss $ move ! (27 ∷ []) $ tokens_out 𝓛 6 κs qs $
+      passes 𝓛 mark.ended (mark.clauses 𝓛 mem run) (passed 𝓛 mem run κs qs a) ! (fm_of 𝓤 H 𝓛.laws 𝓣) known (id⊢ 𝓤 (emp 𝓤)) (λ (b : Answer) ws. Said κs a b ws.1.1.1.1.1.1.0)
       (λ b ws. refl)
-      (and_then ! (local ! 19 refl)
       (and_then ! (local ! 17 refl)
       (and_then ! (local ! 15 refl)
-      (and_then ! (local ! 13 refl) (and_then ! (local ! 11 refl) (and_then ! (local ! 9 refl) (and_then ! (local ! 7 refl) (and_then ! (local ! 1 refl) (no_more !))))))))) (λ b v is ws e.
-      beyond ! $ beyond ! $ beyond ! $ beyond ! $ beyond ! $ beyond ! $ beyond ! $ fsplit ! $ fsplit ! $ move ! (1 ∷ []) $ feq_l ! (λ len.
-      -- [the marks' last list; true; the tokens; _10; …]
-      land ! (from ! (stop !)) (init ! 28 refl ((LL.lawful Answer'.the_type Answer''.the_laws 𝓛).typed b _ is).0) $ returns ! (look ! 28 refl) $
-      move ! (28 ∷ 29 ∷ 26 ∷ 27 ∷ 24 ∷ 25 ∷ 22 ∷ 23 ∷ 20 ∷ 21 ∷ 18 ∷ 19 ∷ 16 ∷ 17 ∷ 14 ∷ 15 ∷ 12 ∷ 13 ∷ 10 ∷ 11 ∷ 8 ∷ 9 ∷ []) $
-      gone1 ! $ gone1 ! $ gone1 ! $ gone1 ! $ gone1 ! $ gone1 ! $ gone1 ! $ gone1 ! $ gone1 ! $ gone1 ! $ gone1 ! $ free0 ! $
-      keep ! (2 ∷ 3 ∷ 4 ∷ 5 ∷ 6 ∷ 7 ∷ 0 ∷ []) $ by ! (exits 𝓛 mem run κs qs a b v is ws.1.1.1.1.1.1.1.0 len e))))))))))))))
+      (and_then ! (local ! 13 refl) (and_then ! (local ! 11 refl) (and_then ! (local ! 9 refl) (and_then ! (local ! 7 refl) (and_then ! (local ! 1 refl) (no_more !)))))))) (λ b v is ws e.
+      beyond ! $ beyond ! $ beyond ! $ beyond ! $ beyond ! $ beyond ! $ fsplit ! $ fsplit ! $ move ! (1 ∷ []) $ feq_l ! (λ len.
+      -- [the marks' last list; true; the tokens; _9; …]
+      land ! (from ! (stop !)) (init ! 26 refl ((LL.lawful Answer'.the_type Answer''.the_laws 𝓛).typed b _ is).0) $ returns ! (look ! 26 refl) $
+      move ! (26 ∷ 27 ∷ 24 ∷ 25 ∷ 22 ∷ 23 ∷ 20 ∷ 21 ∷ 18 ∷ 19 ∷ 16 ∷ 17 ∷ 14 ∷ 15 ∷ 12 ∷ 13 ∷ 10 ∷ 11 ∷ 8 ∷ 9 ∷ []) $
+      gone1 ! $ gone1 ! $ gone1 ! $ gone1 ! $ gone1 ! $ gone1 ! $ gone1 ! $ gone1 ! $ gone1 ! $ gone1 ! $ free0 ! $
+      keep ! (2 ∷ 3 ∷ 4 ∷ 5 ∷ 6 ∷ 7 ∷ 0 ∷ []) $ by ! (exits 𝓛 mem run κs qs a b v is ws.1.1.1.1.1.1.0 len e)))))))))))))
 
   card-mark-meets : Meets 𝓛 card-mark.signature (WpFn 𝓤 H 𝓣.C 𝓣.Λ code.function) (card-mark.spec 𝓛 mem run)
   card-mark-meets = meets 𝓛 mem run (WpFn 𝓤 H 𝓣.C 𝓣.Λ code.function) (WpFn-mono 𝓤 H 𝓛.laws 𝓣 code.function) walk

@@ -34,32 +34,22 @@ skip-fields-requires-4 c κs =
 skip-fields-requires-5 : tie.Need-skip-fields-requires-5
 skip-fields-requires-5 c κs =
     let l = c.before.before.before.before.before.args.line.now in
-    let e : c.skip-fields4.result ≡ field_at 7 l =
-    field_on 4 3 l
-    (field_on 3 1 l (field_on 1 2 l c.before.before.before.skip-fields.ensures c.before.before.skip-fields2.ensures)
+    let e : c.skip-fields4.result ≡ field_at 8 l =
+    field_on 4 4 c.before.before.before.before.before.args.line.now
+    (field_on 3 1 c.before.before.before.before.before.args.line.now
+    (field_on 1 2 c.before.before.before.before.before.args.line.now c.before.before.before.skip-fields.ensures c.before.before.skip-fields2.ensures)
     c.before.skip-fields3.ensures) c.skip-fields4.ensures in
-    omega (arith, field_within l 7 c.before.before.before.before.before.requires (lit< tt))
-
-skip-fields-requires-6 : tie.Need-skip-fields-requires-6
-skip-fields-requires-6 c κs =
-    let l = c.before.before.before.before.before.before.args.line.now in
-    let e : c.skip-fields5.result ≡ field_at 8 l =
-    field_on 7 1 l
-    (field_on 4 3 l
-    (field_on 3 1 l (field_on 1 2 l c.before.before.before.before.skip-fields.ensures c.before.before.before.skip-fields2.ensures)
-    c.before.before.skip-fields3.ensures) c.before.skip-fields4.ensures) c.skip-fields5.ensures in
-    omega (arith, field_within l 8 c.before.before.before.before.before.before.requires (lit< tt))
+    omega (arith, field_within l 8 c.before.before.before.before.before.requires (lit< tt))
 
 returns : tie.Need-returns
 returns c =
-    let l = c.before.before.before.before.before.before.before.args.line.now in
-    let e1 = c.before.before.before.before.before.skip-fields.ensures in
-    let e3 = field_on 1 2 l e1 c.before.before.before.before.skip-fields2.ensures in
-    let e4 = field_on 3 1 l e3 c.before.before.before.skip-fields3.ensures in
-    let e7 = field_on 4 3 l e4 c.before.before.skip-fields4.ensures in
-    let e8 = field_on 7 1 l e7 c.before.skip-fields5.ensures in
-    let e9 = field_on 8 1 l e8 c.skip-fields6.ensures in
-    fields_are l e1 e3 e4 e7 e8 e9
+    let l = c.before.before.before.before.before.before.args.line.now in
+    let e1 = c.before.before.before.before.skip-fields.ensures in
+    let e3 = field_on 1 2 l e1 c.before.before.before.skip-fields2.ensures in
+    let e4 = field_on 3 1 l e3 c.before.before.skip-fields3.ensures in
+    let e8 = field_on 4 4 l e4 c.before.skip-fields4.ensures in
+    let e9 = field_on 8 1 l e8 c.skip-fields5.ensures in
+    fields_are l e1 e3 e4 e8 e9
 
 pub fields-of-spec : {M : Type 1} → statement M
 fields-of-spec =
@@ -70,5 +60,4 @@ fields-of-spec =
     skip-fields-requires-3
     skip-fields-requires-4
     skip-fields-requires-5
-    skip-fields-requires-6
     returns)

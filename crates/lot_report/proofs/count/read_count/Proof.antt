@@ -7,10 +7,10 @@ use native.Mathlib.Omega.{arith}
 use borrow.Author.Rules.{rules}
 use lib.ListN.{length, get_or, drop}
 use Rattle.bases.proofs.TestLaws.{is_true}
-use Rattle.fields.proofs.PosLaws.{digit_low, digit_high, digits_here, value_more, value_past, value_grows}
+use Rattle.fields.proofs.PosLaws.{digit_low, digit_high, value_more, value_past, value_grows}
 use Rattle.fields.specs.Pos.{all_digits?, value_from}
 use Rattle.lot_report.specs.Count.{largest_count}
-use Rattle.lot_report.proofs.CountLaws.{capped_small, capped_large}
+use Rattle.lot_report.proofs.CountLaws.{digits_here, capped_small, capped_large}
 use Rattle.lot_report.proofs.count.read_count.Statement.{statement}
 use Rattle.lot_report.proofs.count.read_count.Tie as tie
 

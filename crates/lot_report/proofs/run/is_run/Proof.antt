@@ -47,14 +47,14 @@ returns-2 c =
 field-from-requires : tie.Need-field-from-requires invariant-loop decreases-loop
 field-from-requires c κs = omega arith
 
-is-decimal-requires : tie.Need-is-decimal-requires invariant-loop decreases-loop
-is-decimal-requires c κs = search rules
+is-count-requires : tie.Need-is-count-requires invariant-loop decreases-loop
+is-count-requires c κs = search rules
 
 returns-3 : tie.Need-returns-3 invariant-loop decreases-loop
 returns-3 c =
     let l = c.before.before.before.before.before.before.before.before.before.args.line.now in
     let p = c.before.before.before.before.before.loop in
-    let e : count? (field_from l p.at) ≡ false = sym (ap (λ (f : List ℕ). count? f) c.before.before.field-from.ensures) ∙ sym c.before.is-decimal.ensures ∙ not-true _ c.if3.true in
+    let e : count? (field_from l p.at) ≡ false = sym (ap (λ (f : List ℕ). count? f) c.before.before.field-from.ensures) ∙ sym c.before.is-count.ensures ∙ not-true _ c.if3.true in
     sym (sym p.invariant.2 ∙ counts_stop p.left l p.at (omega arith) e)
 
 skip-fields-requires : tie.Need-skip-fields-requires invariant-loop decreases-loop
@@ -71,7 +71,7 @@ loop-again c =
     let c8 = c.before.before.before.before.before.before.before.before in
     let l = c8.before.before.args.line.now in
     let p = c.before.before.before.before.before.before.loop in
-    let e : count? (field_from l p.at) ≡ true = sym (ap (λ (f : List ℕ). count? f) c.before.before.before.field-from.ensures) ∙ sym c.before.before.is-decimal.ensures
+    let e : count? (field_from l p.at) ≡ true = sym (ap (λ (f : List ℕ). count? f) c.before.before.before.field-from.ensures) ∙ sym c.before.before.is-count.ensures
     ∙ not-false _ c.before.if3.false in
     let n : c.skip-fields.result ≡ field_end l p.at + 1 = c.skip-fields.ensures ∙ skip_more 1 l p.at (omega arith) ∙ skip_zero l (field_end l p.at + 1) in
     (omega arith, omega (arith, n, until_within TAB l p.at), rw n (sym (counts_more p.left l p.at (omega arith) e) ∙ p.invariant.2))
@@ -98,7 +98,7 @@ is-run-spec =
     loop-holds
     returns-2
     field-from-requires
-    is-decimal-requires
+    is-count-requires
     returns-3
     skip-fields-requires
     sub-left

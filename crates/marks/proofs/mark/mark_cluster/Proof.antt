@@ -20,7 +20,7 @@ returns c =
     let t1 = a.first.now in
     let t2 = a.second.now in
     let w = c.before.before.put-undecided in
-    next_undecided r t1 t2 a.heads a.count c8.before.requires.2 a.scheme a.marks.now w.new.1.0 a.at c.before.before.before.before.if1.true w.ensures
+    next_undecided r t1 t2 a.heads a.count c8.before.requires.2 a.marks.now w.new.1.0 a.at c.before.before.before.before.if1.true w.ensures
 
 put-rows-requires : tie.Need-put-rows-requires
 put-rows-requires c κs =
@@ -29,7 +29,7 @@ put-rows-requires c κs =
     let t1 = a.first.now in
     let t2 = a.second.now in
     let p = c.before.before.before.before.before.before.requires in
-    (ready_readable r t1 t2 a.heads p.0.ready, p.2, c.before.if1.false, next_small r t1 t2 a.heads a.count p.2 p.0 a.scheme)
+    (ready_readable r t1 t2 a.heads p.0.ready, p.2, c.before.if1.false, next_small r t1 t2 a.heads a.count p.2 p.0)
 
 best-choices-requires : tie.Need-best-choices-requires
 best-choices-requires c κs =
@@ -39,7 +39,7 @@ best-choices-requires c κs =
     let t2 = a.second.now in
     let p = c.before.before.before.before.before.before.before.before.requires in
     let w = c.before.put-rows in
-    next_ready r t1 t2 a.heads a.count p.2 p.0 a.scheme c.before.before.before.if1.false a.table.now w.new.1.1.1.1.1.0 w.ensures
+    next_ready r t1 t2 a.heads a.count p.2 p.0 c.before.before.before.if1.false a.table.now w.new.1.1.1.1.0 w.ensures
 
 put-choices-requires : tie.Need-put-choices-requires
 put-choices-requires c κs = search rules
@@ -57,8 +57,8 @@ returns-2 c =
     let w = c.before.before.before.before.before.before.before.put-rows in
     let b = c.before.before.before.before.before.best-choices in
     let m = c.before.before.put-choices in
-    next_decided r t1 t2 a.heads a.count c8.before.before.before.before.before.before.requires.2 a.scheme a.marks.now m.new.1.1.0 a.at c8.before.if1.false
-    a.table.now w.new.1.1.1.1.1.0 w.ensures b.result b.ensures m.ensures
+    next_decided r t1 t2 a.heads a.count c8.before.before.before.before.before.before.requires.2 a.marks.now m.new.1.1.0 a.at c8.before.if1.false
+    a.table.now w.new.1.1.1.1.0 w.ensures b.result b.ensures m.ensures
 
 pub mark-cluster-spec : {M : Type 1} → statement M
 mark-cluster-spec =

@@ -10,7 +10,7 @@ mark-from-requires : tie.Need-mark-from-requires
 mark-from-requires c κs =
     let p = c.before.before.before.before.before.before.before.requires in
     let e = c.before.before.start-heads.ensures in
-    (record { ready = rw e p.0; short = p.1 }, rw e p.2, rw e p.3)
+    (record { ready = rw e p.0; short = p.1 }, rw e p.2)
 
 same_length : tie.Need-same-length
 same_length c = search rules

@@ -15,11 +15,11 @@ use Rattle.marks.proofs.mark.mark_from.Statement.{statement}
 use Rattle.marks.proofs.mark.mark_from.Tie as tie
 
 abbrev invariant-loop : tie.invariant-loop
-invariant-loop scheme reference first second table₀ marks₀ heads₀ at₀ total₀ table marks heads at total =
-    Marking scheme (bases_of reference) first second marks₀ heads₀ marks heads at total
+invariant-loop reference first second table₀ marks₀ heads₀ at₀ total₀ table marks heads at total =
+    Marking (bases_of reference) first second marks₀ heads₀ marks heads at total
 
 abbrev decreases-loop : tie.decreases-loop
-decreases-loop scheme reference first second table₀ marks₀ heads₀ at₀ total₀ table marks heads at total = length (items_from first second heads)
+decreases-loop reference first second table₀ marks₀ heads₀ at₀ total₀ table marks heads at total = length (items_from first second heads)
 
 loop-holds : tie.Need-loop-init invariant-loop decreases-loop
 loop-holds c =
@@ -28,7 +28,7 @@ loop-holds c =
     let t1 = a.first.now in
     let t2 = a.second.now in
     let p = c.before.before.before.before.requires in
-    marking_start a.scheme r t1 t2 a.marks.now a.from p.0 p.1 p.2
+    marking_start r t1 t2 a.marks.now a.from p.0 p.1
 
 is-done-requires : tie.Need-is-done-requires invariant-loop decreases-loop
 is-done-requires c κs = search rules
@@ -70,8 +70,8 @@ add_total c =
     let d : done? t1 t2 l.heads ≡ false = sym c8.is-done.ensures ∙ not-true _ c.before.before.before.before.before.before.before.if1.true in
     let f = c.before.before.before.before.before.before.next_cluster in
     let k = c.before.before.before.mark-cluster in
-    let w = marking_more a.scheme r t1 t2 a.marks.now a.from l.marks l.heads l.at l.total l.invariant d f.ensures k.ensures.0 k.ensures.1 in
-    omega (arith, w.0.low, w.0.few)
+    let w = marking_more r t1 t2 a.marks.now a.from l.marks l.heads l.at l.total l.invariant d f.ensures k.ensures.0 k.ensures.1 in
+    omega (arith, w.0.low, w.0.fits, w.0.space, c8.before.before.before.before.before.before.well-formed)
 
 add_at : tie.Need-overflow-add-at invariant-loop decreases-loop
 add_at c =
@@ -84,7 +84,7 @@ add_at c =
     let d : done? t1 t2 l.heads ≡ false = sym c8.before.is-done.ensures ∙ not-true _ c8.if1.true in
     let f = c.before.before.before.before.before.before.before.next_cluster in
     let k = c.before.before.before.before.mark-cluster in
-    let w = marking_more a.scheme r t1 t2 a.marks.now a.from l.marks l.heads l.at l.total l.invariant d f.ensures k.ensures.0 k.ensures.1 in
+    let w = marking_more r t1 t2 a.marks.now a.from l.marks l.heads l.at l.total l.invariant d f.ensures k.ensures.0 k.ensures.1 in
     omega (arith, w.0.fits, w.0.space, c8.before.before.before.before.before.before.before.well-formed)
 
 loop-less : tie.Need-loop-smaller invariant-loop decreases-loop
@@ -98,7 +98,7 @@ loop-less c =
     let d : done? t1 t2 l.heads ≡ false = sym c8.before.before.is-done.ensures ∙ not-true _ c8.before.if1.true in
     let f = c8.next_cluster in
     let k = c.before.before.before.before.before.mark-cluster in
-    let w = marking_more a.scheme r t1 t2 a.marks.now a.from l.marks l.heads l.at l.total l.invariant d f.ensures k.ensures.0 k.ensures.1 in
+    let w = marking_more r t1 t2 a.marks.now a.from l.marks l.heads l.at l.total l.invariant d f.ensures k.ensures.0 k.ensures.1 in
     w.1
 
 loop-again : tie.Need-loop-preserved invariant-loop decreases-loop
@@ -112,7 +112,7 @@ loop-again c =
     let d : done? t1 t2 l.heads ≡ false = sym c8.before.before.is-done.ensures ∙ not-true _ c8.before.if1.true in
     let f = c8.next_cluster in
     let k = c.before.before.before.before.before.mark-cluster in
-    let w = marking_more a.scheme r t1 t2 a.marks.now a.from l.marks l.heads l.at l.total l.invariant d f.ensures k.ensures.0 k.ensures.1 in
+    let w = marking_more r t1 t2 a.marks.now a.from l.marks l.heads l.at l.total l.invariant d f.ensures k.ensures.0 k.ensures.1 in
     w.0
 
 same_length : tie.Need-same-length invariant-loop decreases-loop
@@ -126,7 +126,7 @@ returns c =
     let t2 = a.second.now in
     let l = c.before.before.loop in
     let d : done? t1 t2 l.heads ≡ true = sym c.before.is-done.ensures ∙ not-false _ c.if1.false in
-    marking_last a.scheme r t1 t2 a.marks.now a.from l.marks l.heads l.at l.total l.invariant d
+    marking_last r t1 t2 a.marks.now a.from l.marks l.heads l.at l.total l.invariant d
 
 pub mark-from-spec : {M : Type 1} → statement M
 mark-from-spec =

@@ -27,7 +27,7 @@ returns c =
     let t2 = a.second.now in
     let g = c.before.before.before.skip-clusters in
     let d : done? t1 t2 g.result.heads ≡ true = sym c.before.is-done.ensures ∙ c.if1.true in
-    asked_none r t1 t2 a.scheme a.cluster (start_heads t1 t2) a.marks.now g.result g.ensures d
+    asked_none r t1 t2 a.cluster (start_heads t1 t2) a.marks.now g.result g.ensures d
 
 next-cluster-requires : tie.Need-next-cluster-requires
 next-cluster-requires c κs =
@@ -71,8 +71,8 @@ returns-2 c =
     let d : done? t1 t2 g.result.heads ≡ false = sym c.before.before.before.before.before.before.before.is-done.ensures ∙ c.before.before.before.before.before.before.if1.false in
     let f = c.before.before.before.before.before.next_cluster in
     let k = c.before.before.mark-cluster in
-    asked_found r t1 t2 a.scheme a.cluster (start_heads t1 t2) a.marks.now g.result g.ensures d f.result f.ensures
-    k.new.1.1.1.1.1.1.1.0 k.result k.ensures.0 k.ensures.1
+    asked_found r t1 t2 a.cluster (start_heads t1 t2) a.marks.now g.result g.ensures d f.result f.ensures
+    k.new.1.1.1.1.1.1.0 k.result k.ensures.0 k.ensures.1
 
 pub mark-one-spec : {M : Type 1} → statement M
 mark-one-spec =

@@ -8,10 +8,10 @@ use Rattle.marks.proofs.row.put_rows.Statement.{statement}
 use Rattle.marks.proofs.row.put_rows.Tie as tie
 
 abbrev invariant-loop : tie.invariant-loop
-invariant-loop scheme first second count table₀ at₀ i₀ table at i = Filling scheme first second count table₀ at₀ table at i
+invariant-loop first second count table₀ at₀ i₀ table at i = Filling first second count table₀ at₀ table at i
 
 abbrev decreases-loop : tie.decreases-loop
-decreases-loop scheme first second count table₀ at₀ i₀ table at i = count - i
+decreases-loop first second count table₀ at₀ i₀ table at i = count - i
 
 loop-holds : tie.Need-loop-init invariant-loop decreases-loop
 loop-holds c =
@@ -19,7 +19,7 @@ loop-holds c =
     let t1 = a.first.now in
     let t2 = a.second.now in
     let p = c.before.before.requires in
-    fill_start a.scheme t1 t2 a.count a.table.now a.heads p.0 p.1 p.3
+    fill_start t1 t2 a.count a.table.now a.heads p.0 p.1 p.3
 
 next-item-requires : tie.Need-next-item-requires invariant-loop decreases-loop
 next-item-requires c κs =
@@ -27,7 +27,7 @@ next-item-requires c κs =
     let t1 = a.first.now in
     let t2 = a.second.now in
     let l = c.before.loop in
-    (fill_left a.scheme t1 t2 a.count a.table.now a.heads l.table l.at l.i l.invariant c.loop-test.true, l.invariant.readable.readable1, l.invariant.readable.readable2)
+    (fill_left t1 t2 a.count a.table.now a.heads l.table l.at l.i l.invariant c.loop-test.true, l.invariant.readable.readable1, l.invariant.readable.readable2)
 
 row-of-requires : tie.Need-row-of-requires invariant-loop decreases-loop
 row-of-requires c κs =
@@ -35,7 +35,7 @@ row-of-requires c κs =
     let t1 = a.first.now in
     let t2 = a.second.now in
     let l = c.before.before.before.loop in
-    rw c.before.next-item.ensures (fill_next a.scheme t1 t2 a.count a.table.now a.heads l.table l.at l.i l.invariant c.before.before.loop-test.true).0
+    rw c.before.next-item.ensures (fill_next t1 t2 a.count a.table.now a.heads l.table l.at l.i l.invariant c.before.before.loop-test.true).0
 
 put-row-requires : tie.Need-put-row-requires invariant-loop decreases-loop
 put-row-requires c κs =
@@ -45,7 +45,7 @@ put-row-requires c κs =
     let l = c.before.before.before.before.loop in
     let taken = c.before.before.before.loop-test.true in (
       omega (arith, taken, c.before.before.before.before.before.before.before.requires.2, c.before.put-row-arg.given.0.1),
-      rw (c.row_of.ensures, c.before.before.next-item.ensures) (fill_next a.scheme t1 t2 a.count a.table.now a.heads l.table l.at l.i l.invariant taken).1,
+      rw (c.row_of.ensures, c.before.before.next-item.ensures) (fill_next t1 t2 a.count a.table.now a.heads l.table l.at l.i l.invariant taken).1,
     )
 
 after-requires : tie.Need-after-requires invariant-loop decreases-loop
@@ -54,7 +54,7 @@ after-requires c κs =
     let t1 = a.first.now in
     let t2 = a.second.now in
     let l = c.before.before.before.before.before.loop in
-    let d = fill_left a.scheme t1 t2 a.count a.table.now a.heads l.table l.at l.i l.invariant c.before.before.before.before.loop-test.true in
+    let d = fill_left t1 t2 a.count a.table.now a.heads l.table l.at l.i l.invariant c.before.before.before.before.loop-test.true in
     rw c.before.before.before.next-item.ensures (items_step t1 t2 l.at d).inside
 
 add-i : tie.Need-overflow-add-i invariant-loop decreases-loop
@@ -74,7 +74,7 @@ loop-again c =
     let n = c.before.before.before.before.next-item in
     let r = c.before.before.row_of in
     let w = c.before.put-row in
-    fill_more a.scheme t1 t2 a.count a.table.now a.heads l.table l.at l.i l.invariant taken (omega (arith, taken, p.2, c.before.before.before.put-row-arg.given.0.1))
+    fill_more t1 t2 a.count a.table.now a.heads l.table l.at l.i l.invariant taken (omega (arith, taken, p.2, c.before.before.before.put-row-arg.given.0.1))
     n.ensures r.ensures w.ensures c.after.ensures
 
 returns : tie.Need-returns invariant-loop decreases-loop
@@ -83,7 +83,7 @@ returns c =
     let t1 = a.first.now in
     let t2 = a.second.now in
     let l = c.before.loop in
-    fill_last a.scheme t1 t2 a.count a.table.now a.heads l.table l.at l.i l.invariant c.loop-test.false
+    fill_last t1 t2 a.count a.table.now a.heads l.table l.at l.i l.invariant c.loop-test.false
 
 pub put-rows-spec : {M : Type 1} → statement M
 put-rows-spec =

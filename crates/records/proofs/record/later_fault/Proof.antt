@@ -2,7 +2,7 @@
 use mathlib.Core.List.{[]}
 use mathlib.Core.Path.{sym, ap, ◌∙◌}
 use borrow.Author.Rules.{rules}
-use borrow.Author.Tests.{eq-eqb, ne_eqb, lt-ltb, le-ltb}
+use borrow.Author.Tests.{lt-ltb, le-ltb}
 use lib.Dec.{ltb}
 use Rattle.bases.specs.Letter.{bases_of}
 use Rattle.bases.specs.declared.place.Pos.{Pos}
@@ -31,57 +31,37 @@ returns-2 c =
     (first_row_not _ _ (sym c.before.before.before.genotype-wrong.ensures ∙ c.before.before.if1.false)
     ∙ first_row_holds _ _ (sym c.before.has-no-alt.ensures ∙ c.if2.true))
 
-weight-on-requires : tie.Need-weight-on-requires
-weight-on-requires c κs = search rules
-
-returns-3 : tie.Need-returns-3
-returns-3 c =
-    let b = c.before.before.before.before in
-    sym
-    (first_row_not _ _ (sym b.before.genotype-wrong.ensures ∙ b.if1.false)
-    ∙ first_row_not _ _ (sym c.before.before.before.has-no-alt.ensures ∙ c.before.before.if2.false)
-    ∙ first_row_holds _ _ (eq-eqb _ _ (sym c.before.weight-on.ensures ∙ c.if3.true)))
-
 is-off-reference-requires : tie.Need-is-off-reference-requires
 is-off-reference-requires c κs = search rules
 
+returns-3 : tie.Need-returns-3
+returns-3 c =
+    let a = c.before.before.before.before.before.before.before.before in
+    sym
+    (first_row_not _ _ (sym c.before.before.before.before.before.genotype-wrong.ensures ∙ c.before.before.before.before.if1.false)
+    ∙ first_row_not _ _ (sym c.before.before.before.has-no-alt.ensures ∙ c.before.before.if2.false)
+    ∙ first_row_holds _ _ (sym (c.before.is-off-reference.ensures ∙ ap (λ (p : Pos). off_reference? (bases_of a.args.reference.now) p (field 3 a.args.line.now)) a.requires.2)
+    ∙ c.if3.true))
+
 returns-4 : tie.Need-returns-4
 returns-4 c =
-    let d = c.before.before in
-    let b = d.before.before.before.before in
-    let a = b.before.before.before.before in
+    let a = c.before.before.before.before.before.before.before.before.before.before.before in
     sym
-    (first_row_not _ _ (sym b.before.genotype-wrong.ensures ∙ b.if1.false)
-    ∙ first_row_not _ _ (sym d.before.before.before.has-no-alt.ensures ∙ d.before.before.if2.false)
-    ∙ first_row_not _ _ (ne_eqb _ _ (λ e. d.if3.false (d.before.weight-on.ensures ∙ e)))
-    ∙ first_row_holds _ _ (sym (c.before.is-off-reference.ensures ∙ ap (λ (p : Pos). off_reference? (bases_of a.args.reference.now) p (field 3 a.args.line.now)) a.requires.2)
-    ∙ c.if4.true))
+    (first_row_not _ _ (sym c.before.before.before.before.before.before.before.before.genotype-wrong.ensures ∙ c.before.before.before.before.before.before.before.if1.false)
+    ∙ first_row_not _ _ (sym c.before.before.before.before.before.before.has-no-alt.ensures ∙ c.before.before.before.before.before.if2.false)
+    ∙ first_row_not _ _ (sym (c.before.before.before.before.is-off-reference.ensures ∙ ap (λ (p : Pos). off_reference? (bases_of a.args.reference.now) p (field 3 a.args.line.now))
+    a.requires.2) ∙ c.before.before.before.if3.false)
+    ∙ first_row_holds _ _ (ap (λ (p : Pos). ltb p.0 a.args.last.0) (sym a.requires.2) ∙ lt-ltb _ _ c.if4.true))
 
 returns-5 : tie.Need-returns-5
 returns-5 c =
-    let f = c.before.before.before in
-    let d = f.before.before in
-    let b = d.before.before.before.before in
-    let a = b.before.before.before.before in
+    let a = c.before.before.before.before.before.before.before.before.before.before.before in
     sym
-    (first_row_not _ _ (sym b.before.genotype-wrong.ensures ∙ b.if1.false)
-    ∙ first_row_not _ _ (sym d.before.before.before.has-no-alt.ensures ∙ d.before.before.if2.false)
-    ∙ first_row_not _ _ (ne_eqb _ _ (λ e. d.if3.false (d.before.weight-on.ensures ∙ e)))
-    ∙ first_row_not _ _ (sym (f.before.is-off-reference.ensures ∙ ap (λ (p : Pos). off_reference? (bases_of a.args.reference.now) p (field 3 a.args.line.now)) a.requires.2) ∙ f.if4.false)
-    ∙ first_row_holds _ _ (ap (λ (p : Pos). ltb p.0 a.args.last.0) (sym a.requires.2) ∙ lt-ltb _ _ c.if5.true))
-
-returns-6 : tie.Need-returns-6
-returns-6 c =
-    let f = c.before.before.before in
-    let d = f.before.before in
-    let b = d.before.before.before.before in
-    let a = b.before.before.before.before in
-    sym
-    (first_row_not _ _ (sym b.before.genotype-wrong.ensures ∙ b.if1.false)
-    ∙ first_row_not _ _ (sym d.before.before.before.has-no-alt.ensures ∙ d.before.before.if2.false)
-    ∙ first_row_not _ _ (ne_eqb _ _ (λ e. d.if3.false (d.before.weight-on.ensures ∙ e)))
-    ∙ first_row_not _ _ (sym (f.before.is-off-reference.ensures ∙ ap (λ (p : Pos). off_reference? (bases_of a.args.reference.now) p (field 3 a.args.line.now)) a.requires.2) ∙ f.if4.false)
-    ∙ first_row_not _ _ (ap (λ (p : Pos). ltb p.0 a.args.last.0) (sym a.requires.2) ∙ le-ltb _ _ c.if5.false)
+    (first_row_not _ _ (sym c.before.before.before.before.before.before.before.before.genotype-wrong.ensures ∙ c.before.before.before.before.before.before.before.if1.false)
+    ∙ first_row_not _ _ (sym c.before.before.before.before.before.before.has-no-alt.ensures ∙ c.before.before.before.before.before.if2.false)
+    ∙ first_row_not _ _ (sym (c.before.before.before.before.is-off-reference.ensures ∙ ap (λ (p : Pos). off_reference? (bases_of a.args.reference.now) p (field 3 a.args.line.now))
+    a.requires.2) ∙ c.before.before.before.if3.false)
+    ∙ first_row_not _ _ (ap (λ (p : Pos). ltb p.0 a.args.last.0) (sym a.requires.2) ∙ le-ltb _ _ c.if4.false)
     ∙ first_row_none [] tt)
 
 pub later-fault-spec : {M : Type 1} → statement M
@@ -92,9 +72,7 @@ later-fault-spec =
     returns
     has-no-alt-requires
     returns-2
-    weight-on-requires
-    returns-3
     is-off-reference-requires
+    returns-3
     returns-4
-    returns-5
-    returns-6)
+    returns-5)

@@ -113,14 +113,9 @@ sub-t26 c =
 cast-t27 : tie.Need-overflow-cast-t27
 cast-t27 c = omega (arith, c.shared-slice-known3.given 2)
 
-weight-on-requires : tie.Need-weight-on-requires
-weight-on-requires c κs =
-    let c8 = c.before.before.before.before.before.before.before.before in
-    (readable_ten c8.before.before.before.before.args.line.now c8.before.before.before.before.requires.0, c8.before.before.fields-of.ensures)
-
 returns : tie.Need-returns
 returns c =
-    let c8 = c.before.before.before.before.before.before.before.before.before in
+    let c8 = c.before.before.before.before.before.before.before.before in
     let l = c8.before.before.before.before.args.line.now in
     let f = read l c8.before.before.fields-of.result c8.before.before.fields-of.ensures in
     entry_is l c8.before.before.before.before.args.at
@@ -128,12 +123,11 @@ returns c =
     f.reference
     c8.field-from.ensures
     f.alt
-    c.before.before.before.before.before.before.before.before.field-from2.ensures
-    c.before.before.before.before.before.before.before.find.ensures
-    c.before.before.before.before.second-part.ensures
-    c.before.before.before.alt-count.ensures
-    (sample_read l c8.before.before.fields-of.ensures c.before.before.before.before.before.before.field-from3.ensures c.before.before.before.before.before.genotype-of.ensures)
-    c.weight-on.ensures
+    c.before.before.before.before.before.before.before.field-from2.ensures
+    c.before.before.before.before.before.before.find.ensures
+    c.before.before.before.second-part.ensures
+    c.before.before.alt-count.ensures
+    (sample_read l c8.before.before.fields-of.ensures c.before.before.before.before.before.field-from3.ensures c.before.before.before.before.genotype-of.ensures)
 
 pub entry-on-spec : {M : Type 1} → statement M
 entry-on-spec =
@@ -157,5 +151,4 @@ entry-on-spec =
     shared-slice-read-t25
     sub-t26
     cast-t27
-    weight-on-requires
     returns)

@@ -1,6 +1,6 @@
 //! Folders for programs compare, counts and normalise: their three files, of lists as drawn or broken, and of files that are missing
-//! or end in another way. In some of them an allele of ALT is at fault and all else is right: each fault in turn, in either list; in
-//! others a weight is. And the name that the program is given.
+//! or end in another way. In some of them an allele of ALT is at fault and all else is right: each fault in turn, in either list. And
+//! the name that the program is given.
 
 use super::names::{names, Given, NONE, OF_RECORDS};
 use super::random_of;
@@ -11,7 +11,6 @@ use crate::drawn::lists::NAME;
 use crate::drawn::masked::masked;
 use crate::drawn::pairs::{pair, worlds};
 use crate::drawn::random::Random;
-use crate::drawn::weights::false_info;
 use crate::drive::at_allele::{AT_ALLELES, FIRST_RECASED, SECOND, SECOND_RECASED};
 
 /// The names of the three files.
@@ -19,10 +18,6 @@ pub const FILES: [&str; 3] = ["reference.txt", "first.vcf", "second.vcf"];
 
 /// One in so many folders has an allele at fault.
 pub const ALT_IN: u64 = 6;
-
-/// One in so many folders, of which none has an allele at fault, has a weight at fault.
-pub const WEIGHT_IN: u64 = 15;
-pub const WEIGHT_AT: u64 = 7;
 
 /// The longest name for a list of which no line may be too long.
 const SHORT: usize = 100;
@@ -37,10 +32,6 @@ pub fn folder(seed: u64, number: u64) -> (Folder, Given) {
         let files = alt_at_fault(random, NAME, number / ALT_IN);
         return (files, Given { name: None, kind: NONE });
     }
-    if number % WEIGHT_IN == WEIGHT_AT {
-        let files = weight_at_fault(random, NAME, number / WEIGHT_IN);
-        return (files, Given { name: None, kind: NONE });
-    }
     let lists = any_lists(random);
     let lists = if random.once_in(40) { lists } else { lists.map(|list| renamed(list, NAME)) };
     let is_spoiled = random.below(10) > 5;
@@ -53,10 +44,6 @@ pub fn named_folder(seed: u64, number: u64) -> (Folder, Given) {
     if number % ALT_IN == ALT_IN - 1 {
         let (name, given) = short_name(random);
         return (alt_at_fault(random, &name, number / ALT_IN), given);
-    }
-    if number % WEIGHT_IN == WEIGHT_AT {
-        let (name, given) = short_name(random);
-        return (weight_at_fault(random, &name, number / WEIGHT_IN), given);
     }
     let lists = any_lists(random);
     let (name, given) = names(random);
@@ -101,26 +88,6 @@ fn short_name(random: &mut Random) -> (Vec<u8>, Given) {
 fn alt_at_fault(random: &mut Random, name: &[u8], turn: u64) -> Folder {
     let turn = turn as usize % (2 * AT_ALLELES.len());
     let (list, (row, allele)) = (turn / AT_ALLELES.len(), AT_ALLELES[turn % AT_ALLELES.len()]);
-    let mut lists = right_lists(random, name, list);
-    let number = random.below(lists[list].records.len());
-    let fields = &mut lists[list].records[number];
-    let is_second = [SECOND, SECOND_RECASED].contains(&allele);
-    let is_recased = [FIRST_RECASED, SECOND_RECASED].contains(&allele);
-    fields[ALT] = false_alts(random, &fields[REF], row, is_second, is_recased);
-    as_files(&lists)
-}
-
-/// Two lists that are right but for the weight of one record, in either list by turns.
-fn weight_at_fault(random: &mut Random, name: &[u8], turn: u64) -> Folder {
-    let list = turn as usize % 2;
-    let mut lists = right_lists(random, name, list);
-    let number = random.below(lists[list].records.len());
-    lists[list].records[number][INFO] = false_info(random);
-    as_files(&lists)
-}
-
-/// Two lists with short lines, of which this one has records.
-fn right_lists(random: &mut Random, name: &[u8], list: usize) -> [Drawn; 2] {
     let mut lists = loop {
         let lists = pair(random, 10).map(|list| renamed(list, name));
         let lists = masked(random, lists);
@@ -131,11 +98,12 @@ fn right_lists(random: &mut Random, name: &[u8], list: usize) -> [Drawn; 2] {
     for fields in lists.iter_mut().flat_map(|list| &mut list.records) {
         fields[INFO] = b".".to_vec(); // Else a line may be as long as can be.
     }
-    lists
-}
-
-fn as_files(lists: &[Drawn; 2]) -> Folder {
-    let TwoLists { reference, texts: [first, second], .. } = TwoLists::of(lists);
+    let number = random.below(lists[list].records.len());
+    let fields = &mut lists[list].records[number];
+    let is_second = [SECOND, SECOND_RECASED].contains(&allele);
+    let is_recased = [FIRST_RECASED, SECOND_RECASED].contains(&allele);
+    fields[ALT] = false_alts(random, &fields[REF], row, is_second, is_recased);
+    let TwoLists { reference, texts: [first, second], .. } = TwoLists::of(&lists);
     [[&reference[..], b"\n"].concat(), first, second].map(Some)
 }
 

@@ -2,7 +2,6 @@
 //! other calls between, of which most are refused.
 
 use super::cost::{strings, COSTLY, STRINGS_MOST};
-use super::schemes::{any_scheme, false_scheme, spoil_beside};
 use super::two_lists::{any_length, any_plan, any_record, lists, TwoLists};
 use super::{any_room, beyond};
 use crate::card::ENTRIES_MOST;
@@ -14,9 +13,8 @@ use crate::Cluster;
 /// Each cluster is asked for, but not more calls than these are made for them.
 const ASKED_MOST: usize = 8;
 
-/// The calls so far, and the plan and the marks as they left them. Each call that marks has the scheme, or a wrong one.
+/// The calls so far, and the plan and the marks as they left them.
 struct Row {
-    scheme: u32,
     lists: [Drawn; 2],
     two: TwoLists,
     plan: Vec<Cluster>,
@@ -27,14 +25,13 @@ struct Row {
 pub fn row(random: &mut Random) -> Vec<Case> {
     let lists = lists(random);
     let (two, plan, length) = (TwoLists::of(&lists), any_plan(random), any_length(random));
-    let (scheme, marks) = (any_scheme(random), any_room(random, length));
-    let mut row = Row { scheme, lists, two, plan, marks, cases: Vec::new() };
+    let mut row = Row { lists, two, plan, marks: any_room(random, length), cases: Vec::new() };
     let clusters = row.call_plan();
     for cluster in row.order(random, clusters) {
         while random.once_in(2) {
             row.call_other(random, cluster, clusters);
         }
-        row.call(row.scheme, row.two.clone(), row.plan.clone(), cluster);
+        row.call(row.two.clone(), row.plan.clone(), cluster);
     }
     row.cases
 }
@@ -49,9 +46,9 @@ impl Row {
         clusters.unwrap_or(0) as usize
     }
 
-    fn call(&mut self, scheme: u32, two: TwoLists, plan: Vec<Cluster>, cluster: usize) {
+    fn call(&mut self, two: TwoLists, plan: Vec<Cluster>, cluster: usize) {
         let TwoLists { reference, name, texts } = two;
-        let call = Call::Mark { scheme, texts, plan, cluster, marks: self.marks.clone() };
+        let call = Call::Mark { texts, plan, cluster, marks: self.marks.clone() };
         let case = Case::new(&reference, &name, call);
         self.marks = case.expected.left[0].clone();
         self.cases.push(case);
@@ -60,21 +57,15 @@ impl Row {
     /// A call with something wrong in it, mostly.
     fn call_other(&mut self, random: &mut Random, cluster: usize, clusters: usize) {
         let (mut two, mut plan, mut asked) = (self.two.clone(), self.plan.clone(), cluster);
-        let mut scheme = self.scheme;
-        match random.below(26) {
+        match random.below(16) {
             0 => drop(self.call_plan()),
             1 => plan.truncate(random.between(ENTRIES_MOST - 2, ENTRIES_MOST - 1)),
             2 => plan[clusters..].fill_with(|| any_record(random)),
             3 | 4 if clusters > 0 => change_plan(random, &mut plan, clusters),
             3..=5 => asked = beyond(random, cluster, clusters),
-            6 => {
-                scheme = false_scheme(random);
-                spoil_beside(random, &mut two, &mut plan);
-            }
-            7 => scheme = any_scheme(random),
             _ => two = TwoLists::spoiled(random, &self.lists),
         }
-        self.call(scheme, two, plan, asked);
+        self.call(two, plan, asked);
     }
 
     /// Each cluster once, some again, in any order; where there is none, the first of them.

@@ -5,7 +5,6 @@
 //! - `one_list` draws the calls of one list, `allele` and `normal`
 //! - `two_lists` draws `plan` and `count`, `whole_pair` draws `mark_all` and `entries`, `marks` whole rows of calls of
 //!   `mark` on one buffer; `cost` says how much there is to search
-//! - `schemes` draws the scheme of `mark` and `mark_all`, and what is wrong beside a wrong one
 //! - `mutated` draws rows of all calls, with bytes changed
 //! - `folders` draws what programs compare, counts and normalise read, `names` what they are given, `runs` what
 //!   lot_report reads
@@ -17,7 +16,6 @@ mod mutated;
 pub mod names;
 mod one_list;
 pub mod runs;
-mod schemes;
 mod spoil;
 mod two_lists;
 mod whole_pair;

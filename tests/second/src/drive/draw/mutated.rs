@@ -3,7 +3,6 @@
 
 use super::marks::change_plan;
 use super::one_list::{any_allele, room_for};
-use super::schemes::mutated_scheme;
 use super::two_lists::{any_length, any_marks, any_plan, TwoLists};
 use super::whole_pair::any_entries;
 use super::{any_room, beyond};
@@ -84,7 +83,7 @@ impl Row {
             25..=29 => {
                 let (plan, mut marks) = (self.any_plan(random), self.marks.clone());
                 marks.resize(any_length(random), 0);
-                Call::MarkAll { scheme: mutated_scheme(random), texts: texts.clone(), plan, marks }
+                Call::MarkAll { texts: texts.clone(), plan, marks }
             }
             30..=34 => Call::Entries { texts: texts.clone(), entries: any_entries(random) },
             _ => Call::Version,
@@ -133,8 +132,7 @@ impl Row {
             4 | 5 if clusters > 0 => change_plan(random, &mut plan, clusters),
             _ => {}
         }
-        let scheme = mutated_scheme(random);
-        Call::Mark { scheme, texts: two.texts.clone(), plan, cluster, marks }
+        Call::Mark { texts: two.texts.clone(), plan, cluster, marks }
     }
 }
 
@@ -151,7 +149,7 @@ fn count(random: &mut Random, two: &TwoLists) -> Call {
 fn write_marks(two: &TwoLists, marks: &mut [u8]) {
     let TwoLists { reference, name, texts: [first, second] } = two;
     let plan = &mut [Cluster::default(); ENTRIES_MOST];
-    let _ = crate::mark_all(0, reference, name, first, second, plan, marks);
+    let _ = crate::mark_all(reference, name, first, second, plan, marks);
 }
 
 /// Writes the plan of these lists; where they are refused, none. Returns the number of clusters.

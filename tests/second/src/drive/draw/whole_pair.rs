@@ -2,7 +2,6 @@
 
 use super::any_room;
 use super::cost::{strings, COSTLY, STRINGS_MOST};
-use super::schemes::{any_scheme, false_scheme, spoil_beside};
 use super::two_lists::{any_length, any_number, any_plan, two_lists, TwoLists};
 use crate::drawn::masked::masked;
 use crate::drawn::pairs::worlds_and_crowd;
@@ -23,19 +22,15 @@ fn any_lists(random: &mut Random) -> TwoLists {
 
 /// Lists with much to search are drawn again, mostly.
 pub fn mark_all(random: &mut Random) -> Case {
-    let mut two = loop {
+    let two = loop {
         let two = any_lists(random);
         if strings(&two).iter().sum::<usize>() <= STRINGS_MOST || random.once_in(COSTLY) {
             break two;
         }
     };
-    let (mut plan, length) = (any_plan(random), any_length(random));
-    let (mut scheme, marks) = (any_scheme(random), any_room(random, length));
-    if random.once_in(20) {
-        scheme = false_scheme(random);
-        spoil_beside(random, &mut two, &mut plan);
-    }
-    Case::new(&two.reference, &two.name, Call::MarkAll { scheme, texts: two.texts, plan, marks })
+    let (plan, length) = (any_plan(random), any_length(random));
+    let marks = any_room(random, length);
+    Case::new(&two.reference, &two.name, Call::MarkAll { texts: two.texts, plan, marks })
 }
 
 pub fn entries(random: &mut Random) -> Case {
