@@ -10,7 +10,7 @@ use marks::mark::mark_every;
 
 // What is answered: the four numbers of a refusal, or zeros; the number of clusters; and the score summed over the decided ones.
 #[repr(C)]
-#[derive(Drop)]
+#[derive(Clone, Copy)]
 pub struct AllMarked {
     pub number: u32,
     pub list: u32,
@@ -63,7 +63,7 @@ pub fn mark_all(
 }
 
 // What `mark_all` answers, and the plan that it wrote.
-#[derive(Drop)]
+#[derive(Clone, Copy)]
 pub struct MarkedLists {
     pub answer: AllMarked,
     pub plan: [Cluster; LEAST],

@@ -11,7 +11,7 @@ use vcf::list::judge;
 
 // Where an allele stands: a part of the text or of the reference; or why it is not shown, with the empty part at the start of the
 // reference.
-#[derive(Drop)]
+#[derive(Clone, Copy)]
 pub struct Shown {
     pub refusal: Refusal,
     pub text: bool,

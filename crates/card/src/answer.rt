@@ -5,7 +5,7 @@ ghost use Rattle.card.specs.Answer.{answer};
 // Five numbers. Where the call is refused: the number, list, line and place of the refusal, and value 0. Where it is answered: number and
 // place 0, and what list, line and value mean is said at the call.
 #[repr(C)]
-#[derive(Drop)]
+#[derive(Clone, Copy)]
 pub struct Answer {
     pub number: u32,
     pub list: u32,

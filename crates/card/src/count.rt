@@ -10,7 +10,7 @@ use marks::count::{Count, Counts, count_lists};
 // What is answered: the four numbers of a refusal, or zeros; then how many entries of list 1 are matched, unmatched and undecided, and how
 // many of list 2.
 #[repr(C)]
-#[derive(Drop)]
+#[derive(Clone, Copy)]
 pub struct Counted {
     pub number: u32,
     pub list: u32,

@@ -8,7 +8,7 @@ use crate::heads::{Heads, after, is_done, next_item};
 use crate::item::size_of;
 
 // A cluster: its number of entries, and the cursors behind it.
-#[derive(Drop)]
+#[derive(Clone, Copy)]
 pub struct Found {
     pub count: usize,
     pub heads: Heads,

@@ -8,7 +8,7 @@ use bases::reference::has_any_period;
 
 // What the rule reads of an entry: is it of list 1, where its span starts and ends, and by how much its alleles are shorter or longer than
 // REF.
-#[derive(Drop)]
+#[derive(Clone, Copy)]
 pub struct Size {
     pub side: bool,
     pub start: Place,
@@ -18,7 +18,7 @@ pub struct Size {
 }
 
 // What is kept of the current cluster, in document 01's letters: b, the largest end, and the sums A_1, B_1, A_2 and B_2.
-#[derive(Drop)]
+#[derive(Clone, Copy)]
 pub struct Current {
     pub b: Place,
     pub a1: usize,

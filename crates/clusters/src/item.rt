@@ -7,7 +7,7 @@ use bases::place::{Place, place_of};
 use vcf::entry::Entry;
 
 // An entry with the list that it is of; `side`: of list 1.
-#[derive(Drop)]
+#[derive(Clone, Copy)]
 pub struct Item {
     pub side: bool,
     pub entry: Entry,

@@ -13,14 +13,14 @@ use crate::heads::{Heads, is_done, start_heads};
 
 // A cluster by its first entry in merged order and its number of entries.
 #[repr(C)]
-#[derive(Drop)]
+#[derive(Clone, Copy)]
 pub struct Cluster {
     pub first: u32,
     pub count: u32,
 }
 
 // A step of the walk from cluster to cluster: is there a cluster, its record, and the cursors behind it.
-#[derive(Drop)]
+#[derive(Clone, Copy)]
 pub struct Walk {
     pub more: bool,
     pub cluster: Cluster,

@@ -20,7 +20,7 @@ pub const MOST_ENTRIES: usize = 2 * MOST_RECORDS;
 pub const TEXT_MOST: usize = 22 + 26 * MOST_ENTRIES + 38;
 
 // Where the walk stands behind a cluster's lines: the cursors, and where the next line is written.
-#[derive(Drop)]
+#[derive(Clone, Copy)]
 pub struct Walked {
     pub heads: Heads,
     pub at: usize,

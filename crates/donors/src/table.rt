@@ -28,7 +28,7 @@ pub const COPY0: usize = 4;
 pub const COPY1: usize = 7;
 
 // An allele: whether it takes its entry's span, and where its bytes stand: in the text of its list or in the reference.
-#[derive(Drop)]
+#[derive(Clone, Copy)]
 pub struct Allele {
     pub room: bool,
     pub text: bool,
@@ -37,7 +37,7 @@ pub struct Allele {
 }
 
 // An entry of a table: whether it is of list 1, the span of REF, its weight, and its alleles for copies 0 and 1.
-#[derive(Drop)]
+#[derive(Clone, Copy)]
 pub struct Row {
     pub first: bool,
     pub start: usize,

@@ -8,7 +8,7 @@ use crate::table::{LEN, MOST, START, TABLE, allele_of, number, takes};
 // Where a walk stands: `len` bytes of its piece are left, from `at` on in the text of the list or in the reference. Behind the piece the
 // donor goes on at place `place` of the reference, with the rows from `row` on. Where none is left `row` is above their number, and the
 // piece is the last.
-#[derive(Drop)]
+#[derive(Clone, Copy)]
 pub struct Along {
     pub row: usize,
     pub place: usize,

@@ -49,7 +49,7 @@ pub fn has_ten_fields(line: &[u8]) -> bool
 }
 
 // Where the fields that are read begin: POS, REF, ALT, FORMAT and the sample. (CHROM begins at 0.)
-#[derive(Drop)]
+#[derive(Clone, Copy)]
 pub struct Fields {
     pub pos: usize,
     pub reference: usize,

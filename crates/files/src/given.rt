@@ -9,7 +9,7 @@ use bases::put::put_bytes;
 use records::record::LONGEST_LINE;
 
 // Where each part ends in the room. The name begins where the room does, each other part where the one before it ends.
-#[derive(Drop)]
+#[derive(Clone, Copy)]
 pub struct Given {
     pub name: usize,
     pub reference: usize,

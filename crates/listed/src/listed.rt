@@ -18,7 +18,7 @@ use vcf::entry::lines_above;
 
 // An entry: its list (1 or 2), its number in the list (from 0), its line in that list's text (from 1) and its cluster.
 #[repr(C)]
-#[derive(Drop)]
+#[derive(Clone, Copy)]
 pub struct Listed {
     pub list: u32,
     pub entry: u32,
@@ -27,14 +27,14 @@ pub struct Listed {
 }
 
 // The next entry of a list: its number in the list, and its line.
-#[derive(Drop)]
+#[derive(Clone, Copy)]
 pub struct Next {
     pub entry: u32,
     pub line: u32,
 }
 
 // The next entry of each list.
-#[derive(Drop)]
+#[derive(Clone, Copy)]
 pub struct Nexts {
     pub first: Next,
     pub second: Next,
@@ -42,7 +42,7 @@ pub struct Nexts {
 
 // Where a walk from entry to entry is: the cursors, the next entry of each list, what is kept of the current cluster, and how many clusters
 // have begun.
-#[derive(Drop)]
+#[derive(Clone, Copy)]
 pub struct Stand {
     pub heads: Heads,
     pub nexts: Nexts,
@@ -51,7 +51,7 @@ pub struct Stand {
 }
 
 // A step of the walk: is there an entry, its record, and where the walk is behind it.
-#[derive(Drop)]
+#[derive(Clone, Copy)]
 pub struct Listing {
     pub more: bool,
     pub listed: Listed,

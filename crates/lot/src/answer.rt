@@ -10,7 +10,7 @@ use crate::sum::{Sum, no_sum};
 
 // Where it is refused: the number, list, line and place of the refusal, and zeros. Else these four are 0, the totals of the six counts, the
 // entries of the truth and of what was called, and recall and precision.
-#[derive(Drop)]
+#[derive(Clone, Copy)]
 pub struct Lot {
     pub number: u32,
     pub list: u32,

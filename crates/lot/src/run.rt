@@ -6,7 +6,7 @@ use card::count::Counted;
 use records::record::MOST_RECORDS;
 
 // List 1 is the truth, list 2 what the run called.
-#[derive(Drop)]
+#[derive(Clone, Copy)]
 pub struct Run {
     pub matched1: u32,
     pub unmatched1: u32,

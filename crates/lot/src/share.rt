@@ -3,7 +3,7 @@ ghost use Rattle.std.specs.Prelude.{◌≡◌, ◌≤◌};
 ghost use Rattle.lot.specs.Share.{share_of};
 
 // `top` of `bottom`, and `ppm` parts per million, rounded down. Where `bottom` is 0 there is no such fraction, and `ppm` is NONE.
-#[derive(Drop)]
+#[derive(Clone, Copy)]
 pub struct Share {
     pub top: u32,
     pub bottom: u32,

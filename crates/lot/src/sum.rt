@@ -5,7 +5,7 @@ ghost use Rattle.lot.specs.Sum.{no_sum, add_run, HasRoom};
 use crate::run::{Run, is_large};
 
 // The counts of the runs so far that are not too large, added up, and whether one was too large.
-#[derive(Drop)]
+#[derive(Clone, Copy)]
 pub struct Sum {
     pub total: Run,
     pub large: bool,

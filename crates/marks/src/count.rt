@@ -7,7 +7,7 @@ ghost use Rattle.clusters.specs.Merged.{merged_items};
 use clusters::heads::{after, is_done, next_item, start_heads};
 
 // The three counts.
-#[derive(Drop)]
+#[derive(Clone, Copy)]
 pub struct Count {
     pub matched: usize,
     pub unmatched: usize,
@@ -15,7 +15,7 @@ pub struct Count {
 }
 
 // The six counts: those of list 1 and those of list 2.
-#[derive(Drop)]
+#[derive(Clone, Copy)]
 pub struct Counts {
     pub first: Count,
     pub second: Count,

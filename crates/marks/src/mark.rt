@@ -18,7 +18,7 @@ use donors::table::{MOST, TABLE};
 use matching::search::best_choices;
 
 // What is told of the cluster that is asked for: is there one, is it decided, and its score (0 where it is undecided).
-#[derive(Drop)]
+#[derive(Clone, Copy)]
 pub struct Marked {
     pub found: bool,
     pub decided: bool,

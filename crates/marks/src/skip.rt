@@ -8,7 +8,7 @@ use clusters::cluster::next_cluster;
 use clusters::heads::{Heads, is_done, start_heads};
 
 // Where a walk from cluster to cluster came: the cursors, and the number of entries before them.
-#[derive(Drop)]
+#[derive(Clone, Copy)]
 pub struct Skipped {
     pub heads: Heads,
     pub entries: usize,

@@ -6,7 +6,7 @@ ghost use Rattle.matching.specs.Answer.{nothing_found, can_beat?};
 use donors::table::MOST;
 
 // What a search found: nothing, or the best choices and their score.
-#[derive(Drop)]
+#[derive(Clone, Copy)]
 pub struct Best {
     pub score: usize,
     pub found: bool,

@@ -10,7 +10,7 @@ use bases::place::Place;
 use bases::reference::{base_is, bases_alike};
 
 // What is cut off: the shortest length of the alleles, how many bases off every end, and how many off every front.
-#[derive(Drop)]
+#[derive(Clone, Copy)]
 pub struct Cuts {
     pub shortest: usize,
     pub back: usize,

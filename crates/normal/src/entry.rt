@@ -9,14 +9,14 @@ use bases::place::{Place, place_of};
 use vcf::entry::{Entry, Part};
 
 // An allele of a normal form: so many bases of the reference from the new start on, and behind them a part of the text.
-#[derive(Drop)]
+#[derive(Clone, Copy)]
 pub struct Spelled {
     pub front: usize,
     pub own: Part,
 }
 
 // An entry's normal form: where it starts, the length of REF there, and the ALTs (`second` is as `first` where there is one).
-#[derive(Drop)]
+#[derive(Clone, Copy)]
 pub struct NormalEntry {
     pub start: Place,
     pub span: usize,

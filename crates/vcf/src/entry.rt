@@ -13,7 +13,7 @@ use fields::pos::read_pos;
 use records::record::pos_on;
 
 // A part of a text: where it begins and how many bytes it has.
-#[derive(Drop)]
+#[derive(Clone, Copy)]
 pub struct Part {
     pub at: usize,
     pub len: usize,
@@ -21,7 +21,7 @@ pub struct Part {
 
 // An entry: POS, REF and the ALTs as parts of the list's text (`second` is empty where there is one ALT), the number of ALTs, and the
 // alleles of the two copies.
-#[derive(Drop)]
+#[derive(Clone, Copy)]
 pub struct Entry {
     pub pos: Pos,
     pub reference: Part,

@@ -16,7 +16,7 @@ use records::row::LineFault;
 pub const LONGEST_TEXT: usize = 65_536;
 
 // Where a walk from line to line stands: above the records, or below the column line behind so many records, the last at POS `last`.
-#[derive(Drop)]
+#[derive(Clone, Copy)]
 pub struct Stage {
     pub below: bool,
     pub records: usize,
@@ -25,7 +25,7 @@ pub struct Stage {
 
 // A row that holds, the line where it does (from 1; 0 for row 3), and the place in that line that it tells (from 0; 0 in all rows but 20
 // to 23). No fault is three zeros.
-#[derive(Drop)]
+#[derive(Clone, Copy)]
 pub struct Fault {
     pub number: u32,
     pub line: usize,
