@@ -13,7 +13,7 @@
 --                                  the bases of bytes: as many, place by place, of what is left, of the first n, of a part, of two texts
 --     bases_twice, bases_letters   bases are their own bases, and letters where the bytes are
 -- Assumes nothing.
-use mathlib.Core.Bool.{Bool, true, false, not, ◌&&◌, ◌||◌}
+use mathlib.Core.Bool.{Bool, true, false, not, ◌&&◌}
 use mathlib.Core.List.{List, [], ◌∷◌, ◌++◌}
 use mathlib.Core.Logic.{◌↔◌, ◌⊎◌, inl, inr, ⊎_elim}
 use mathlib.Core.Path.{◌≡◌, refl, sym, ap, ap₂, subst, ◌∙◌}
@@ -26,7 +26,7 @@ use lib.Dec.{T, eqb, eqb→eq}
 use lib.ListN.{length, get_or, take, drop, drop_of_length-le}
 use lib.Seq.{drop-cons}
 use borrow.Author.Tests.{eqb-true, not-false}
-use Rattle.bases.specs.Letter.{letters, writes?, letter_among, letter_of, is_letter?, all_letters?, bases_of}
+use Rattle.bases.specs.Letter.{writes?, letter_among, letter_of, is_letter?, all_letters?, bases_of}
 use Rattle.bases.proofs.TestLaws.{both, either, of_true, is_true, is_false}
 use Rattle.bases.specs.Pick.{pick}
 

@@ -10,7 +10,6 @@ use mathlib.Core.List.{List, [], ◌∷◌, Memᴰ, Permᴰ}
 use mathlib.Core.Logic.{⊎_elim}
 use mathlib.Core.Path.{◌≡◌, refl, ◌∙◌}
 use Prim.Native.Nat.{ℕ}
-use lib.Dec.{T}
 use Rattle.bases.specs.Reference.{Bases}
 use Rattle.vcf.specs.declared.entry.Entry.{Entry}
 use Rattle.vcf.specs.Entry.{entries_of}

@@ -8,12 +8,12 @@ use mathlib.Core.Bool.{Bool, true, false}
 use mathlib.Core.List.{List, ◌∷◌, ◌++◌}
 use mathlib.Core.Logic.{⊎_elim}
 use mathlib.Core.Path.{◌≡◌, refl, sym, ap, subst, ◌∙◌}
-use Prim.Native.Nat.{ℕ, suc, ◌+◌, ◌-◌, ◌≤◌, ◌<◌}
+use Prim.Native.Nat.{ℕ, suc, ◌+◌, ◌≤◌, ◌<◌}
 use native.Mathlib.Omega.{arith}
 use lib.Dec.{T, eqb, ltb→lt, lit<}
 use lib.ListN.{length, drop, length-append, length-drop}
 use lib.Seq.{length-take-le}
-use Rattle.bases.specs.Letter.{all_letters?, letter_of, letter_among, is_letter?}
+use Rattle.bases.specs.Letter.{letter_of, letter_among, is_letter?}
 use Rattle.bases.specs.Pick.{pick}
 use Rattle.bases.specs.Reference.{Bases, longest_reference}
 use Rattle.fields.specs.Allele.{first_alt, two_alts?}

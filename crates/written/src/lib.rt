@@ -1,4 +1,6 @@
 // A list written in normal form: each record's line, in its place by the new POS. The contracts cite specs/.
+#![tactic(auto)]
+
 pub mod list;
 pub mod place;
 pub mod put;
