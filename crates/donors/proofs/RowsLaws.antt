@@ -69,7 +69,6 @@ edits_own reference first second t j h (c ∷ φ) i (suc n) =
     rw (
       edits_own reference first second t j h φ (i + 1) n,
       row_takes reference (pick (row_at t i).first first second) (row_at t i) c j h,
-      row_takes reference (pick j first second) (row_at t i) c j h,
     ) (go j (row_at t i).first (room_at? (row_at t i) c h))
   where
     es : List Edit

@@ -2,7 +2,7 @@
 --     made_none               what is carried at the start
 --     made_reads              the choices made are read in the array
 --     made_back               a byte written behind them is taken back by a `0`
---     Carried                 what is carried, over a table of entries
+--     Carried, carried        what is carried, over a table of entries, as the search's contract has it
 --     made_weight             the next entry's weight is part of what is carried
 --     made_chosen, made_out   what is carried, after the next entry is chosen, and after it is left out
 -- Assumes nothing.
@@ -14,6 +14,7 @@ use native.Mathlib.Omega.{arith}
 use lib.Dec.{T}
 use lib.ListN.{length, drop, set, replicate, length-append}
 use lib.Seq.{drop_at, drop-append-add}
+use Rattle.donors.specs.Agree.{Ready}
 use Rattle.donors.specs.Choice.{Choice, plus, minus, out, Copy, Variant, chosen?, card_rules}
 use Rattle.donors.specs.Rules.{edits}
 use Rattle.donors.specs.Table.{most, variants_from, choices_from}
@@ -51,6 +52,12 @@ pub record Carried (reference first second t choices : List ℕ) (top n left : �
   pub few : n ≤ most
   pub enough : left ≤ n
   pub made : Made (variants_from reference first second t 0 n) (choices_from choices 0 (n - left)) choices top
+
+-- The search's contract asks for it.
+pub carried : {reference first second t choices : List ℕ} {top n left : ℕ} {P : Type 0}
+    → Ready reference first second t n × (left ≤ n) × Made (variants_from reference first second t 0 n) (choices_from choices 0 (n - left)) choices top × P
+    → Carried reference first second t choices top n left
+carried p = record { few = p.0.few; enough = p.1; made = p.2 }
 
 counts_all : (x : Variant) (c : Choice) → T (chosen? c) → counts x c ≡ x.weight
 counts_all x plus t = refl
