@@ -1,6 +1,6 @@
--- Each contract of the functions over lent records determines its result, and what it leaves in the records: any two that it allows for the same
--- arguments are equal. These functions are walked by hand, and no module has their contract as a relation: `States` says that a relation is what the
--- contract ensures, as src/ states it, in every model.
+-- Each contract of the functions over lent records determines its result, and what it leaves in the records: any two that it allows for
+-- the same arguments are equal. A contract stands here as a relation of its own, over what the lent records hold before and after:
+-- `States` says that a relation is what the contract ensures, as src/ states it, in every model.
 -- Assumes nothing.
 use mathlib.Core.Path.{◌≡◌, refl, sym, ◌∙◌}
 use seplogic.Ra.Ura.{Ura}

@@ -1,7 +1,9 @@
 -- Laws of the plan in lent records.
 --     plan_few                           no more clusters than entries
---     same_cluster, is_plan              the tests in words: the same record; the first records given, as many as there are clusters, are the plan
---     is_plan_none, is_plan_next         judged up to no record, and up to one more
+--     same_cluster, is_plan              the tests in words: the same record; the first records given, as many as there are clusters, are
+--                                        the plan
+--     is_plan_none, is_plan_next, is_plan_more, is_plan_all
+--                                        judged up to no record, up to one more (by one test, and by the code's two), and up to the last
 --     fill_none, fill_next, fill_all     written up to no record, up to one more, and up to the last
 --     fill_length                        the lent records stay as many
 -- Assumes nothing.
@@ -110,6 +112,16 @@ module _ (d : Cluster) where
       go (suc k) (c ∷ p) (g ∷ given) h l =
           and_and (same_cluster? c g) (is_plan? (take k p) given) (same_cluster? (get_or p k d) (get_or given k d))
           ∙ ap (λ (t : Bool). same_cluster? c g && t) (go k p given (omega arith) (omega arith))
+
+  -- The same as the code tests it, where t says of the first k and c is the plan's record k.
+  pub is_plan_more : (t : Bool) (c : Cluster) (k : ℕ) (p given : List Cluster) → t ≡ is_plan? (take k p) given → c ≡ get_or p k d → k < length p → k < length given
+      → (t && eqb c.first (get_or given k d).first) && eqb c.count (get_or given k d).count ≡ is_plan? (take (k + 1) p) given
+  is_plan_more t c k p given e f h l =
+      let g = get_or given k d in
+      and_and t (eqb c.first g.first) (eqb c.count g.count) ∙ rw (e, f) (is_plan_next k p given h l)
+
+pub is_plan_all : (p given : List Cluster) → is_plan? (take (length p) p) given ≡ is_plan? p given
+is_plan_all p given = ap (λ (q : List Cluster). is_plan? q given) (take-length p)
 
 module _ {A : Type 0} (p lent : List A) (room : length p ≤ length lent) where
   pub fill_none : lent ≡ put lent 0 (take 0 p)

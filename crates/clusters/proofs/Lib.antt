@@ -1,4 +1,3 @@
-pub mod ByHand
 pub mod CardClusters
 pub mod ClusterLaws
 pub mod Determines
@@ -6,13 +5,11 @@ pub mod FirstLaws
 pub mod GapLaws
 pub mod HeadsLaws
 pub mod JoinLaws
-pub mod Leaving
 pub mod LentDetermines
 pub mod LentLaws
 pub mod MergedLaws
 pub mod NextLaws
 pub mod PlanLaws
-pub mod PlanSteps
 pub mod RoomLaws
 pub mod SoundLaws
 pub mod StepLaws

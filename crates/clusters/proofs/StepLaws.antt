@@ -6,10 +6,13 @@
 --     Goes, Stands, walk_stands
 --                               each step that the plan has a record for: its cluster is that record, and the walk can go on
 --     walk_ends                 the step behind the last record: there is no cluster more
+--     WalkedTo, walked_start    the step in hand of a loop over the steps, behind k clusters; so it is before the loop
+--     Turn, walked_turn         where there is a cluster: the plan has a record left, which is the step's, and the walk can go on
+--     walked_all                where there is none, k is the number of the plan's records
 -- Assumes nothing.
 use mathlib.Core.Bool.{true, false}
 use mathlib.Core.List.{List, [], ◌∷◌}
-use mathlib.Core.Path.{◌≡◌, ap}
+use mathlib.Core.Path.{◌≡◌, refl, ap, ◌∙◌}
 use Prim.Native.Nat.{ℕ, ◌+◌, ◌<◌, ◌^◌}
 use native.Mathlib.Omega.{arith}
 use borrow.Author.Tests.{not-true, not-false}
@@ -19,11 +22,11 @@ use Rattle.clusters.specs.declared.heads.Heads.{Heads}
 use Rattle.clusters.specs.declared.plan.Cluster.{Cluster}
 use Rattle.clusters.specs.declared.plan.Walk.{Walk}
 use Rattle.clusters.specs.Heads.{Ready, start_heads, items_from, done?, passed, variants_from, first_count, found_at}
-use Rattle.clusters.specs.Plan.{records_from, card_plan}
-use Rattle.clusters.specs.Walk.{walk_from, next_walk}
+use Rattle.clusters.specs.Plan.{records_from, card_plan, plan_of}
+use Rattle.clusters.specs.Walk.{walk_from, first_walk, next_walk}
 use Rattle.clusters.proofs.HeadsLaws.{items_few, passed_items}
 use Rattle.clusters.proofs.NextLaws.{next_done, count_le, ready_found, records_done, records_next}
-use Rattle.clusters.proofs.Steps.{step_at, step_start, step_next, At, steps_stand, steps_end}
+use Rattle.clusters.proofs.Steps.{step_at, step_start, step_next, At, steps_stand, steps_end, Reached, reached_less, reached_here, reached_all}
 
 module _ (reference first second : List ℕ) where
   pub start_fits : Ready reference first second (start_heads first second) → 0 + length (items_from first second (start_heads first second)) < 2 ^ 32
@@ -88,3 +91,48 @@ module _ (reference first second : List ℕ) where
     pub walk_ends : (k i : ℕ) (h : Heads) → Goes n (i, h) → k ≡ length (plan_from i h) → (walk_at k i h).more ≡ false
     walk_ends k i h g l =
         steps_end step_from on (λ (w : Walk). w.more) (λ (w : Walk). w.cluster) (λ (s : ℕ × Heads). plan_from s.0 s.1) (Goes n) none some k (i, h) g l
+
+  -- The step in hand of a loop over the steps, behind k clusters of the two lists.
+  abbrev pub WalkedTo : ℕ → Walk → Type 0
+  WalkedTo k w = Reached step_from on (length (plan_of reference first second)) (0, start_heads first second) k w
+
+  pub walked_start : (w : Walk) → w ≡ first_walk reference first second → WalkedTo 0 w
+  walked_start w e = record { step = e ∙ walk_start 0 (start_heads first second); upto = omega arith }
+
+  -- A turn of that loop.
+  pub record Turn (k : ℕ) (w : Walk) (d : Cluster) : Type 0 where
+    pub less : k < length (plan_of reference first second)
+    pub made : w.cluster ≡ get_or (plan_of reference first second) k d
+    pub goes : Ready reference first second w.heads × (w.cluster.first + w.cluster.count + length (items_from first second w.heads) < 2 ^ 32)
+    pub next : (v : Walk) → v ≡ next_walk reference first second w → WalkedTo (k + 1) v
+
+  module _ (r : Ready reference first second (start_heads first second)) where
+    abbrev n : ℕ
+    n = 0 + length (items_from first second (start_heads first second))
+
+    stands : (k : ℕ) (d : Cluster) → k < length (plan_of reference first second) → Stands n (get_or (plan_of reference first second) k d) (walk_at k 0 (start_heads first second))
+    stands k d l = walk_stands n k 0 (start_heads first second) d (r, refl) l
+
+    ends : (k : ℕ) → k ≡ length (plan_of reference first second) → (walk_at k 0 (start_heads first second)).more ≡ false
+    ends k e = walk_ends n k 0 (start_heads first second) (r, refl) e
+
+    module _ (k : ℕ) (w : Walk) (at : WalkedTo k w) where
+      pub walked_turn : w.more ≡ true → (d : Cluster) → Turn k w d
+      walked_turn more d =
+          let less =
+          reached_less step_from on (λ (w : Walk). w.more) (λ (w : Walk). w.cluster) (λ (s : ℕ × Heads). plan_from s.0 s.1) (Goes n)
+          (0, start_heads first second) (plan_of reference first second) stands ends k w at more in
+          let here =
+          reached_here step_from on (λ (w : Walk). w.more) (λ (w : Walk). w.cluster) (λ (s : ℕ × Heads). plan_from s.0 s.1) (Goes n)
+          (0, start_heads first second) (plan_of reference first second) stands ends k w at more d in
+          record {
+            less = less;
+            made = here.made;
+            goes = (here.good.0, omega (arith, here.good.1, start_fits r));
+            next = λ v e. record { step = e ∙ ap (next_walk reference first second) at.step ∙ walk_next k 0 (start_heads first second); upto = omega (arith, less) };
+          }
+
+      pub walked_all : w.more ≡ false → k ≡ length (plan_of reference first second)
+      walked_all e =
+          reached_all step_from on (λ (w : Walk). w.more) (λ (w : Walk). w.cluster) (λ (s : ℕ × Heads). plan_from s.0 s.1) (Goes n)
+          (0, start_heads first second) (plan_of reference first second) stands ends k w at e

@@ -1,5 +1,7 @@
 // Clusters: the entries of two lists in merged order, the gap rule, the clusters that it cuts, in one walk over both texts, and the plan.
 // The contracts cite specs/.
+#![tactic(auto)]
+
 pub mod cluster;
 pub mod gap;
 pub mod heads;

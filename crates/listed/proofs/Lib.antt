@@ -3,6 +3,5 @@ pub mod Examples
 pub mod LentDetermines
 pub mod ListedLaws
 pub mod ListingLaws
-pub mod ListingSteps
 pub mod NumberLaws
 pub mod StandLaws

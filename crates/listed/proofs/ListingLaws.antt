@@ -24,7 +24,7 @@ use Rattle.listed.specs.declared.listed.Listed.{Listed}
 use Rattle.listed.specs.declared.listed.Nexts.{Nexts}
 use Rattle.listed.specs.declared.listed.Stand.{Stand}
 use Rattle.marks.specs.Counts.{one}
-use Rattle.clusters.specs.Gap.{Adds, more, nothing, cut?, Kept}
+use Rattle.clusters.specs.Gap.{Adds, nothing, cut?, Kept}
 use Rattle.clusters.specs.Heads.{Ready, start_heads, done?, next_item, moved}
 use Rattle.clusters.specs.Item.{item_size}
 use Rattle.listed.specs.Listed.{next_of, nexts_after, listed_as}

@@ -7,11 +7,15 @@
 --                                    step k, step 0, and the step behind step k
 --     ListedAt, listing_stands       each step that there is a record for: it has that record, and the walk can go on
 --     listing_ends                   the step behind the last
+--     ListedTo, listed_to_start      the step in hand of a loop over the steps, behind k entries; so it is before the loop
+--     Turn, listed_to_turn           where there is an entry: a record is left, which is the step's, and the walk can go on
+--     listed_to_all                  where there is none, k is the number of the records
 -- Assumes nothing.
 use mathlib.Core.Bool.{Bool, true, false}
 use mathlib.Core.List.{List, [], ◌∷◌}
 use mathlib.Core.Path.{◌≡◌, refl, ap, ap₂, ◌∙◌}
 use Prim.Native.Nat.{ℕ, ◌+◌, ◌-◌, ◌<◌}
+use native.Mathlib.Omega.{arith}
 use lib.ListN.{length, get_or}
 use Rattle.bases.proofs.TestLaws.{of_true, of_false}
 use Rattle.donors.specs.Choice.{Variant, card_rules}
@@ -32,7 +36,7 @@ use Rattle.clusters.specs.Merged.{merged_items, merged_variants}
 use Rattle.clusters.proofs.HeadsLaws.{items_none, items_step, next_sound}
 use Rattle.listed.proofs.ListingLaws.{going_start, going_after}
 use Rattle.listed.proofs.NumberLaws.{numbers_on, numbers_plan}
-use Rattle.clusters.proofs.Steps.{step_at, step_start, step_next, At, steps_stand, steps_end}
+use Rattle.clusters.proofs.Steps.{step_at, step_start, step_next, At, steps_stand, steps_end, Reached, reached_less, reached_here, reached_all}
 use Rattle.clusters.proofs.WalkLaws.{item_size_lem, variants_step}
 
 -- one entry more, whose sizes are z
@@ -109,3 +113,38 @@ module _ (reference first second : List ℕ) where
     listing_ends k e =
         steps_end (listing_from reference first second) (λ (w : Listing). w.behind) (λ (w : Listing). w.more) (λ (w : Listing). w.listed) listed_on (Going reference first second) listing_none
         listing_some k (start_stand first second) (going_start reference first second r) (rw listed_start at e)
+
+  -- The step in hand of a loop over the steps, behind k entries of the two lists.
+  abbrev pub ListedTo : ℕ → Listing → Type 0
+  ListedTo k w = Reached (listing_from reference first second) (λ (w : Listing). w.behind) (length (listed_of reference first second)) (start_stand first second) k w
+
+  pub listed_to_start : (w : Listing) → w ≡ first_listing reference first second → ListedTo 0 w
+  listed_to_start w e = record { step = e ∙ listing_start; upto = omega arith }
+
+  -- A turn of that loop.
+  pub record Turn (k : ℕ) (w : Listing) (d : Listed) : Type 0 where
+    pub less : k < length (listed_of reference first second)
+    pub made : w.listed ≡ get_or (listed_of reference first second) k d
+    pub goes : Going reference first second w.behind
+    pub next : (v : Listing) → v ≡ next_listing reference first second w → ListedTo (k + 1) v
+
+  module _ (r : Ready reference first second (start_heads first second)) (k : ℕ) (w : Listing) (at : ListedTo k w) where
+    pub listed_to_turn : w.more ≡ true → (d : Listed) → Turn k w d
+    listed_to_turn more d =
+        let less =
+        reached_less (listing_from reference first second) (λ (w : Listing). w.behind) (λ (w : Listing). w.more) (λ (w : Listing). w.listed) listed_on (Going reference first second)
+        (start_stand first second) (listed_of reference first second) (listing_stands r) (listing_ends r) k w at more in
+        let here =
+        reached_here (listing_from reference first second) (λ (w : Listing). w.behind) (λ (w : Listing). w.more) (λ (w : Listing). w.listed) listed_on (Going reference first second)
+        (start_stand first second) (listed_of reference first second) (listing_stands r) (listing_ends r) k w at more d in
+        record {
+          less = less;
+          made = here.made;
+          goes = here.good;
+          next = λ v e. record { step = e ∙ ap (next_listing reference first second) at.step ∙ listing_next k; upto = omega (arith, less) };
+        }
+
+    pub listed_to_all : w.more ≡ false → k ≡ length (listed_of reference first second)
+    listed_to_all e =
+        reached_all (listing_from reference first second) (λ (w : Listing). w.behind) (λ (w : Listing). w.more) (λ (w : Listing). w.listed) listed_on (Going reference first second)
+        (start_stand first second) (listed_of reference first second) (listing_stands r) (listing_ends r) k w at e

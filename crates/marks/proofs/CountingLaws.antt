@@ -1,5 +1,5 @@
--- Laws of the walk that counts, entry after entry, in the form that the code's loop has: h is the cursors, before which there are i entries, and c what is
--- counted so far.
+-- Laws of the walk that counts, entry after entry, in the form that the code's loop has: h is the cursors, before which there are i
+-- entries, and c what is counted so far.
 --     Counting                         behind i entries, what is counted are these
 --     counting_begin, counting_few     so it is at the start; no count is above the most entries
 --     counting_room, counting_less, counting_more

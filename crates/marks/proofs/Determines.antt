@@ -1,5 +1,5 @@
--- Each contract determines its result, and what it leaves in a list that it is lent to write: any two that it allows for the same arguments are equal. `Post` is
--- the contract as src/ states it.
+-- Each contract determines its result, and what it leaves in a list that it is lent to write: any two that it allows for the same
+-- arguments are equal. `Post` is the contract as src/ states it.
 -- Assumes nothing.
 use mathlib.Core.List.{List}
 use mathlib.Core.Path.{refl, sym, ◌∙◌}

@@ -1,5 +1,5 @@
--- Laws of the walk that marks cluster after cluster, in the form that the code's loop has: m is the marks, h the cursors, before which there are i entries, and
--- total the score so far.
+-- Laws of the walk that marks cluster after cluster, in the form that the code's loop has: m is the marks, h the cursors, before which
+-- there are i entries, and total the score so far.
 --     next_cluster      the clusters from the cursors on are the next entries, and those behind them
 --     score_done, marks_done, score_next, marks_next
 --                       so are the score and the marks

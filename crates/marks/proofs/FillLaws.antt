@@ -1,5 +1,5 @@
--- Laws of the walk that writes the next n entries into the search's table, in the form that the code's loop has: t is the table, h the cursors, and i entries
--- are written.
+-- Laws of the walk that writes the next n entries into the search's table, in the form that the code's loop has: t is the table, h the
+-- cursors, and i entries are written.
 --     Filling        what is still to be written gives the whole, and its numbers fit into the table
 --     fill_start     so it is at the start
 --     fill_left      the next entry is there

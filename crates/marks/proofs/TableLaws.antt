@@ -78,8 +78,8 @@ module _ (reference first second : List ℕ) where
   table_then (i ∷ is) t =
       let r = row_of i in
       let u = table_of is ++ t in
-      rw (append_assoc (numbers_of r) (table_of is) t)
-      (ap₂ (λ (x : Variant) (xs : List Variant). x ∷ xs)
+      ap (λ (v : List ℕ). variants_from reference first second v 0 (suc (length is))) (append_assoc (numbers_of r) (table_of is) t)
+      ∙ (ap₂ (λ (x : Variant) (xs : List Variant). x ∷ xs)
       (ap entry_by (row_front r u) ∙ row_variant reference first second i)
       (variants_behind r u 0 (length is) ∙ table_then is t))
 
