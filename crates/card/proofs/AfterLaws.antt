@@ -1,4 +1,5 @@
--- What one call leaves of the marks: a refused one leaves them as they were; an answered one on these lists writes marks of all clusters' entries in their places.
+-- What one call leaves of the marks: a refused one leaves them as they were; an answered one on these lists writes marks of all clusters'
+-- entries in their places.
 --     after_refused, after_answered     what it leaves
 --     after_long, after_others, after_entry, after_asked     its effect byte by byte
 -- Assumes nothing.
@@ -60,7 +61,8 @@ module _ (reference name first second : List ℕ) (accepted1 : (judge_text (base
   all_within : length right ≡ count
   all_within = all_long (bases_of reference) cs ∙ whole_long (bases_of reference) name first second accepted1 accepted2
 
-  -- What an answered call on these lists leaves: some of the marks of all entries, in their places, and at least those of the clusters that it asks for.
+  -- What an answered call on these lists leaves: some of the marks of all entries, in their places, and at least those of the clusters
+  -- that it asks for.
   pub record Wrote (marks : List ℕ) (c : Call) : Type 0 where
     pub at : ℕ
     pub bytes : List ℕ

@@ -5,7 +5,8 @@
 --     shown_fits, shown_short
 --                            what is shown is a part of the reference or of the text, and ends at most at 65,536
 --     reference_shown, reference_same, first_shown, second_shown
---                            where the companion's number is 0: allele 0 is the part of the reference at POS as long as REF and spells REF's bases,
+--                            where the companion's number is 0: allele 0 is the part of the reference at POS as long as REF and spells
+--                            REF's bases,
 --                            alleles 1 and 2 are the ALTs of the entry's line
 --     reference_begins, first_begins, second_begins
 --                            there too: allele 0 begins in the reference at POS, alleles 1 and 2 in the text where the ALTs do

@@ -1,5 +1,5 @@
--- Each contract of the calls over lent records determines its result, and what it leaves in what it is lent: any two that it allows for the same
--- arguments are equal. `States` says that a relation is what the contract ensures.
+-- Each contract of the calls over lent records determines its result, and what it leaves in what it is lent: any two that it allows for
+-- the same arguments are equal. `States` says that a relation is what the contract ensures.
 -- Assumes nothing.
 use mathlib.Core.Path.{◌≡◌, refl, sym, ◌∙◌}
 use lib.ListN.{length}

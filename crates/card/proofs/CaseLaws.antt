@@ -1,5 +1,5 @@
--- Two references that differ only in the case of their bases: each call gives the same answer and leaves the same of what it is lent, and of an allele the
--- same part is shown. Only its bytes are those that were lent.
+-- Two references that differ only in the case of their bases: each call gives the same answer and leaves the same of what it is lent, and
+-- of an allele the same part is shown. Only its bytes are those that were lent.
 --     only_case                     bytes that differ only in case spell the same bases
 --     plan_case, entries_case, mark_case, all_case, count_case, normal_case
 --                                   what the call answers, and what it leaves

@@ -1,5 +1,6 @@
 -- The call `count`, in document 01's words.
---     count_refused_iff, count_answered_iff    a refusal is given exactly if its row holds and none before it in the order does; an answer exactly if none holds
+--     count_refused_iff, count_answered_iff    a refusal is given exactly if its row holds and none before it in the order does; an
+--                                              answer exactly if none holds
 --     count_refused, count_given               what is answered, by the refusal
 --     count_entries                            where every entry has a mark, the counts of each list add up to its entries
 --     count_marked                             so they do on the marks that `mark_all` leaves

@@ -1,5 +1,5 @@
--- Demand 3, proved: whatever the order, repeats and refusals of the calls, once each cluster has been answered every entry of both lists has the mark that
--- the demand gives it, and so the marks are the same.
+-- Demand 3, proved: whatever the order, repeats and refusals of the calls, once each cluster has been answered every entry of both lists
+-- has the mark that the demand gives it, and so the marks are the same.
 --     calls_long, calls_others, calls_kept, calls_asked     what several calls leave, byte by byte
 --     demand_3           the mark of each entry, once each cluster has been answered
 --     demand_3_same      the marks are then the same, whatever the calls
@@ -7,7 +7,7 @@
 use mathlib.Core.List.{List, [], ◌∷◌}
 use mathlib.Core.Logic.{inl, inr}
 use mathlib.Core.Path.{◌≡◌, refl, ◌∙◌}
-use Prim.Native.Nat.{ℕ, ◌≤◌, ◌<◌}
+use Prim.Native.Nat.{ℕ, ◌≤◌}
 use native.Mathlib.Omega.{arith}
 use lib.ListN.{length, get_or}
 use Rattle.bases.specs.Letter.{bases_of}

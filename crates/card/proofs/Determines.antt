@@ -1,6 +1,6 @@
--- Each contract determines its result: any two results that it allows for the same arguments are equal. Of `allele`, whose result is a part of a lent
--- slice, the bytes and the pointer are: a reference has nothing else that a program can see. Where a function is lent what it can write, `..-leaves`
--- says the same of what is left there.
+-- Each contract determines its result: any two results that it allows for the same arguments are equal. Of `allele`, whose result is a
+-- part of a lent slice, the bytes and the pointer are: a reference has nothing else that a program can see. Where a function is lent what
+-- it can write, `..-leaves` says the same of what is left there.
 -- Assumes nothing.
 use mathlib.Core.List.{List}
 use mathlib.Core.Path.{sym, ◌∙◌}

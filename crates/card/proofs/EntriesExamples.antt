@@ -1,5 +1,6 @@
 -- The call `entries` computed.
---     example_9, answered      three entries of one cluster: of list 2, of list 1 and of list 2, on lines 3, 3 and 4; their number is answered
+--     example_9, answered      three entries of one cluster: of list 2, of list 1 and of list 2, on lines 3, 3 and 4; their number is
+--                              answered
 --     example_7                an entry of each list, in two clusters
 --     too_few, unwritten       with room for 1,023 the call is refused; where it is refused, a lent record is as it was
 -- Assumes nothing.

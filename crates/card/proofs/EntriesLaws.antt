@@ -1,5 +1,6 @@
 -- The call `entries`: its refusals in document 01's words, and what its records say of the marks.
---     entries_refused_iff, entries_answered_iff    a refusal is given exactly if its row holds and none before it in the order does; an answer exactly if none holds
+--     entries_refused_iff, entries_answered_iff    a refusal is given exactly if its row holds and none before it in the order does; an
+--                                                  answer exactly if none holds
 --     entries_marks       answered, it gives the number of marks that `mark_all` writes: mark e belongs to record e
 --     entries_lie         entry e lies in the cluster that record e names,
 --     entries_marked      which is the one that demand 3 speaks of where it says what mark e is

@@ -1,5 +1,6 @@
--- Which numbers and places the calls give, in request a's words: "10 is given no more", and the place is "0 in all other rows" than 20 to 23
--- "and where an allele is shown": that is `allele_answer_place` of card_abi/proofs/AnswerLaws.antt. (`given?` and its words are in vcf/proofs/GivenLaws.antt.)
+-- Which numbers and places the calls give, in request a's words: "10 is given no more", and the place is "0 in all other rows" than 20 to
+-- 23 "and where an allele is shown": that is `allele_answer_place` of card_abi/proofs/AnswerLaws.antt. (`given?` and its words are in
+-- vcf/proofs/GivenLaws.antt.)
 --     list_given, lists_given, mark_given, allele_given     the refusals of calls with one list and with two, of `mark` and of `allele`
 --     answered_place                                        an answer that is no refusal has place 0
 -- Assumes nothing.

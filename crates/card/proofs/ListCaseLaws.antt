@@ -12,11 +12,11 @@ use lib.Dec.{leb}
 use Rattle.bases.specs.declared.place.Pos.{Pos}
 use Rattle.clusters.specs.declared.item.Item.{Item}
 use Rattle.clusters.specs.Item.{text_of, variant}
-use Rattle.clusters.specs.Merged.{weave, merged, key_of, item_of, items_of, merged_items, merged_variants}
+use Rattle.clusters.specs.Merged.{weave, merged, key_of, items_of, merged_items, merged_variants}
 use Rattle.clusters.specs.Plan.{plan_of}
 use Rattle.donors.specs.Choice.{Variant}
 use Rattle.donors.specs.Rules.{list1, list2}
-use Rattle.marks.specs.Counts.{own_marks, count_all, counts_of}
+use Rattle.marks.specs.Counts.{own_marks, counts_of}
 use Rattle.marks.specs.Marks.{clusters_of, all_marks, total_score, asked_for, marks_after}
 use Rattle.vcf.specs.declared.entry.Entry.{Entry}
 use Rattle.vcf.specs.Entry.{entries_of}

@@ -1,6 +1,7 @@
 -- The call `mark`, in document 01's words.
 --     mark_numbered                          a row of it that holds is not numbered 0
---     mark_refused_iff, mark_answered_iff    a refusal is given exactly if its row holds and none before it in the order does; an answer exactly if none holds
+--     mark_refused_iff, mark_answered_iff    a refusal is given exactly if its row holds and none before it in the order does; an answer
+--                                            exactly if none holds
 --     Asked, mark_asked                      what is so where a cluster is answered
 --     mark_kept, mark_written                the marks after a refused call, and after an answered one
 --     mark_lists, mark_read                  what is answered and left where the lists are turned away, and where they are read
@@ -47,7 +48,8 @@ module _ (reference name first second : List ℕ) (plan : List Cluster) (k room 
   pub mark_answered_iff : (mark_refusal reference name first second plan k room ≡ no_refusal) ↔ NoneHolds (mark_checks reference name first second plan k room)
   mark_answered_iff = answered_iff (mark_checks reference name first second plan k room) mark_numbered
 
-  -- Cluster k is answered: the reference is one, the room is enough, both lists are accepted, the plan is theirs, and there is such a cluster.
+  -- Cluster k is answered: the reference is one, the room is enough, both lists are accepted, the plan is theirs, and there is such a
+  -- cluster.
   pub record Asked : Type 0 where
     pub right : is_reference? reference ≡ true
     pub enough : least_room ≤ length plan

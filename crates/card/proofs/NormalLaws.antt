@@ -1,5 +1,6 @@
 -- The call `normal`, in document 01's words.
---     normal_refused_iff, normal_answered_iff    a refusal is given exactly if its row holds and none before it in the order does; an answer exactly if none holds
+--     normal_refused_iff, normal_answered_iff    a refusal is given exactly if its row holds and none before it in the order does; an
+--                                                answer exactly if none holds
 --     normal_refused, normal_given               what is answered and what is left of the room, by the refusal
 -- Assumes nothing.
 use mathlib.Core.List.{List}

@@ -1,5 +1,6 @@
--- Why demand 2 speaks of entries one by one: a list that matches itself whole as read, and not as written. On GCATATG, POS 2 C to G and POS 4 TAT to T do not
--- overlap; the deletion's normal form is POS 2 CAT to C, and of the two only one may then be chosen. The lists are those of examples/overlap.
+-- Why demand 2 speaks of entries one by one: a list that matches itself whole as read, and not as written. On GCATATG, POS 2 C to G and
+-- POS 4 TAT to T do not overlap; the deletion's normal form is POS 2 CAT to C, and of the two only one may then be chosen. The lists are
+-- those of examples/overlap.
 -- Assumes nothing.
 use mathlib.Core.List.{List, [], ◌∷◌}
 use Prim.Native.Nat.{ℕ}

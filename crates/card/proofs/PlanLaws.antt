@@ -1,5 +1,6 @@
 -- The call `plan`, in document 01's words.
---     plan_refused_iff, plan_answered_iff    a refusal is given exactly if its row holds and none before it in the order does; an answer exactly if none holds
+--     plan_refused_iff, plan_answered_iff    a refusal is given exactly if its row holds and none before it in the order does; an answer
+--                                            exactly if none holds
 --     answer_refused, answer_given           what such a call answers, and what is left of what it is lent, by the refusal
 -- Assumes nothing.
 use mathlib.Core.List.{List}

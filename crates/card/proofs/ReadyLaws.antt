@@ -1,16 +1,19 @@
 -- What is so of lists that are read, as far as the clusters' functions lean on it.
 --     Answerable, lists_answerable     where no row of the lists holds
+--     rooms_answerable                 the same of a call that is lent a plan and marks: both have the least room
 -- Assumes nothing.
 use mathlib.Core.Bool.{Bool, false}
 use mathlib.Core.List.{List}
-use mathlib.Core.Path.{◌≡◌}
+use mathlib.Core.Path.{◌≡◌, sym, ap, ◌∙◌}
 use Prim.Native.Nat.{ℕ, ◌≤◌}
 use native.Mathlib.Omega.{arith}
+use borrow.Author.Tests.{ltb-false}
+use lib.Dec.{ltb}
 use lib.ListN.{length}
 use Rattle.bases.specs.Letter.{bases_of}
 use Rattle.bases.specs.Reference.{longest_reference}
 use Rattle.bases.proofs.ReferenceLaws.{reference_bases}
-use Rattle.bases.proofs.TestLaws.{of_true}
+use Rattle.bases.proofs.TestLaws.{of_true, neither}
 use Rattle.clusters.specs.Heads.{Ready, start_heads}
 use Rattle.clusters.specs.Item.{variant}
 use Rattle.marks.specs.Marks.{clusters_of, total_score}
@@ -18,6 +21,9 @@ use Rattle.clusters.specs.Merged.{merged_items}
 use Rattle.clusters.specs.Plan.{plan_of}
 use Rattle.clusters.proofs.CardClusters.{clusters_plain, map_length}
 use Rattle.clusters.proofs.NextLaws.{accepted_ready}
+use Rattle.card.specs.declared.answer.Answer.{Answer}
+use Rattle.card.specs.Answer.{refused_answer}
+use Rattle.card.specs.Mark.{small_room?}
 use Rattle.card.specs.Refusal.{first_refusal, least_room, lists_checks}
 use Rattle.card.proofs.ClusterMarks.{whole_long, entries_most, plan_few}
 use Rattle.card.proofs.ListsLaws.{lists_read}
@@ -51,3 +57,12 @@ lists_answerable reference name first second small z =
       },
       r.0.roomy,
     )
+
+-- Of two lengths that are lent, `small` tells whether one is too small, and the answer `a` whether a row of the lists holds.
+pub rooms_answerable : (reference name first second : List ℕ) (plan marks : ℕ) (small : Bool) (a : Answer) → small ≡ small_room? plan marks
+    → a ≡ refused_answer (first_refusal (lists_checks reference name first second small)) → a.number ≡ 0
+    → Answerable (bases_of reference) first second × (least_room ≤ plan) × (least_room ≤ marks)
+rooms_answerable reference name first second plan marks small a e f z =
+    let can = lists_answerable reference name first second small (sym (ap (λ (x : Answer). x.number) f) ∙ z) in
+    let room = neither (ltb plan least_room) (ltb marks least_room) (sym e ∙ can.1) in
+    (can.0, ltb-false plan least_room room.0, ltb-false marks least_room room.1)

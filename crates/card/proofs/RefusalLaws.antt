@@ -1,5 +1,5 @@
--- The first of a call's refusals, in document 01's words: "The first found is answered", "A refusal is given only when its row holds", and an
--- input with no fault is answered. They are the laws of bases/proofs/FirstLaws.antt, of refusals.
+-- The first of a call's refusals, in document 01's words: "The first found is answered", "A refusal is given only when its row holds",
+-- and an input with no fault is answered. They are the laws of bases/proofs/FirstLaws.antt, of refusals.
 --     Numbered                         a row that holds is not numbered 0
 --     first_holds, first_not           the first refusal, by the check in front
 --     first_none, none_holds           four zeros where no row holds, and number 0 only there

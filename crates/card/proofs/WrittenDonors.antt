@@ -1,5 +1,6 @@
 -- Demand 2 on a written list, proved.
---     alone_plus, alone_minus, alone_out     the donor of one entry: the reference with its span replaced by the allele that the copy's number names, and itself where
+--     alone_plus, alone_minus, alone_out     the donor of one entry: the reference with its span replaced by the allele that the copy's
+--                                            number names, and itself where
 --                                that is REF
 --     order_all                  what holds of each entry holds of each in the new order
 --     Fit, entries_fit           what is so of an accepted list's entries, as far as their donors go

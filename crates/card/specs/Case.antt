@@ -1,7 +1,7 @@
 -- Case. Request b: "Two bases are now equal if they are the same letter in either case, in reference, REF and ALT alike."
 -- So references that differ only in case are one reference, and lists whose entries differ only in the case of REF and ALT are one list.
 -- Assumes nothing: these are definitions.
-use Rattle.std.specs.Prelude.{List, [], ◌∷◌, ◌⊎◌, ◌≡◌, ℕ, T}
+use Rattle.std.specs.Prelude.{List, ◌⊎◌, ◌≡◌, ℕ, T}
 use Rattle.bases.specs.Letter.{letter_of, is_letter?, bases_of}
 use Rattle.vcf.specs.declared.entry.Entry.{Entry}
 use Rattle.vcf.specs.Entry.{bytes_of, entries_of}

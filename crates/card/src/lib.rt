@@ -1,5 +1,7 @@
 // The card's calls. None has a `requires`: bad input is refused with the number, list, line and place of its row, and a refused call
 // changes nothing.
+#![tactic(auto)]
+
 pub mod all;
 pub mod allele;
 pub mod answer;

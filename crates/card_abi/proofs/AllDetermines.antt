@@ -1,5 +1,5 @@
--- The contract of `card_mark_all`, which is that of `mark_all`, determines its answer, and what it leaves in the records and in the marks: any two that it
--- allows for the same arguments are equal.
+-- The contract of `card_mark_all`, which is that of `mark_all`, determines its answer, and what it leaves in the records and in the
+-- marks: any two that it allows for the same arguments are equal.
 -- Assumes nothing.
 use mathlib.Core.Path.{◌≡◌, refl}
 use contract.Lifetimes.{Lfts}

@@ -1,5 +1,5 @@
--- Each contract determines its result: any two results that it allows for the same arguments are equal. Where a function is lent what it can write,
--- `..-leaves` says the same of what is left there.
+-- Each contract determines its result: any two results that it allows for the same arguments are equal. Where a function is lent what it
+-- can write, `..-leaves` says the same of what is left there.
 -- Assumes nothing.
 use mathlib.Core.List.{List}
 use mathlib.Core.Path.{sym, ◌∙◌}

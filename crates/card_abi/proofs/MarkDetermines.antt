@@ -1,5 +1,5 @@
--- The contract of `card_mark` is that of `mark`, and determines its answer and the marks that it leaves: any two that it allows for the same arguments are
--- equal.
+-- The contract of `card_mark` is that of `mark`, and determines its answer and the marks that it leaves: any two that it allows for the
+-- same arguments are equal.
 -- Assumes nothing.
 use mathlib.Core.Path.{◌≡◌, refl}
 use contract.Lifetimes.{Lfts}

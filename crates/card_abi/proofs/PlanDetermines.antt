@@ -1,5 +1,5 @@
--- The contract of `card_plan`, which is that of `plan`, determines its result, and what it leaves in the records: any two that it allows for the same
--- arguments are equal.
+-- The contract of `card_plan`, which is that of `plan`, determines its result, and what it leaves in the records: any two that it allows
+-- for the same arguments are equal.
 -- Assumes nothing.
 use mathlib.Core.Path.{◌≡◌, refl}
 use contract.Lifetimes.{Lfts}

@@ -1,4 +1,6 @@
 // The card's calls for C and Rust: no reference is returned, and each answer is a number or a struct of numbers.
+#![tactic(auto)]
+
 pub mod all;
 pub mod allele;
 pub mod count;
