@@ -1,6 +1,7 @@
 -- Laws of the lines of entries.
 --     lines_few                             the most bytes that they have
---     lines_next, lines_split               the line of the next entry, and those behind it; the lines of the next cluster, and those behind it
+--     lines_next, lines_split               the line of the next entry, and those behind it; the lines of the next cluster, and those behind
+--                                           it
 --     lines_marks                           more marks than entries
 --     Putting                               the walk over a cluster's entries behind k of them
 --     putting_begin, putting_left, putting_more, putting_end

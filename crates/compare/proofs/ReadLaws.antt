@@ -5,7 +5,7 @@
 use mathlib.Core.Bool.{Bool, true, false, not, ◌&&◌}
 use mathlib.Core.List.{List, [], ◌∷◌}
 use mathlib.Core.Path.{◌≡◌, refl, ap}
-use Prim.Native.Nat.{ℕ, zero, suc, ◌≤◌}
+use Prim.Native.Nat.{ℕ, zero, suc, ◌+◌, ◌≤◌}
 use native.Mathlib.Omega.{arith}
 use lib.Dec.{eqb, leb, leb→le}
 use lib.ListN.{length, get_or}
@@ -36,7 +36,7 @@ pos_le f = go (is_pos? f) refl
 entries_pos : (a : ℕ) (ls : List (List ℕ)) → All (λ (e : Entry). e.pos.0 ≤ largest_pos) (entries_from a ls)
 unfolding entries_from
 entries_pos a [] = tt
-entries_pos a (l ∷ ls) = (pos_le _, entries_pos _ ls)
+entries_pos a (l ∷ ls) = (pos_le _, entries_pos (a + length l + 1) ls)
 
 module _ (first second : List ℕ) where
   pub readable_passed : (n : ℕ) (h : Heads) → Readable first second h → n ≤ length (items_from first second h) → Readable first second (passed first second n h)

@@ -4,8 +4,8 @@
 --     text_wrote                            the heading, and behind it the rest
 --     Printing                              the walk over the clusters behind k of them
 --     printing_begin, printing_fits, printing_more, printing_end, printing_all
---                                           behind the heading; the next cluster's entries are there; behind one cluster more; behind the last: the total
---                                           line is left, and every entry is passed
+--                                           behind the heading; the next cluster's entries are there; behind one cluster more; behind the
+--                                           last: the total line is left, and every entry is passed
 -- Assumes nothing.
 use mathlib.Core.List.{List, ◌++◌, append_assoc}
 use mathlib.Core.Path.{◌≡◌, ap, ◌∙◌}

@@ -3,7 +3,8 @@
 --     text_refused                    where it is refused, the text says so
 --     text_counts, text_few, text_accepted
 --                                     else both lists can be counted, the counts can be printed, and their line is what is printed
---     counted_call                    the counts that are printed are those that the call `count` answers for the marks that `mark_all` leaves
+--     counted_call                    the counts that are printed are those that the call `count` answers for the marks that `mark_all`
+--                                     leaves
 -- Assumes nothing.
 use mathlib.Core.List.{List}
 use mathlib.Core.Logic.{◌≢◌}

@@ -1,6 +1,5 @@
--- What counts prints, computed: document 01's example 9, where one entry matches two; example 12's seven and six, which are undecided; and three files
--- that cannot be read.
--- Assumes nothing.
+-- What counts prints, computed: document 01's example 9, where one entry matches two; example 12's seven and six, which are undecided; and
+-- three files that cannot be read. Assumes nothing.
 use mathlib.Core.List.{List, [], ◌∷◌}
 use mathlib.Core.Path.{◌≡◌, refl}
 use Prim.Native.Nat.{ℕ}

@@ -1,6 +1,5 @@
--- The contract of `ends_in_lf` determines its result. What the others read and print is not told by a contract: that is what the files and the
--- argument have.
--- Assumes nothing.
+-- The contract of `ends_in_lf` determines its result. What the others read and print is not told by a contract: that is what the files and
+-- the argument have. Assumes nothing.
 use mathlib.Core.Path.{sym, ◌∙◌}
 use Rattle.bases.proofs.Determines.{OneResult}
 use Rattle.files.proofs.file.ends_in_lf.Kinds as ends-in-lf-kinds

@@ -1,27 +1,50 @@
 // A program's files, read into lent room, and what it prints.
 ghost use Rattle.std.specs.Prelude.{◌≡◌, ◌≤◌, length};
-ghost use Rattle.io.specs.Counts.{IsPrefixLen};
-ghost use Rattle.files.specs.File.{ends_in_lf?};
+ghost use Rattle.files.specs.File.{IsPrefixLen, ends_in_lf?};
 
 use fields::bytes::LF;
-use libc::STDOUT_FILENO;
+use std::fs::File;
+use std::io;
+use std::io::Read;
+use std::rt::Files;
+use std::str::from_utf8;
 use vcf::list::LONGEST_TEXT;
 
-// One byte more than the longest text that is accepted, and than the longest reference with its LF: a longer file is not cut to one that is
-// accepted.
+// One byte more than the longest text that is accepted, and than the longest reference with its LF: a longer file is not cut to one that
+// is accepted.
 pub const FILE_ROOM: usize = LONGEST_TEXT + 1;
 
-// Reads the file into the room, from its start on, and answers how many bytes that are. A file that cannot be read counts as empty.
-pub fn read_file(path: &[u8], room: &mut [u8]) -> usize
+// Reads into the room, from its start on, until the room is full, the file ends or a read fails, and answers how many bytes that are. A
+// pipe gives its bytes in parts, each read the next.
+fn read_full(file: &mut impl Read, room: &mut [u8]) -> usize
     ensures { IsPrefixLen result room.new }
 {
-    let descriptor = os::open_read(path);
-    if descriptor < 0 {
-        return 0;
+    let mut done = 0;
+    while done < room.len() {
+        let got = match file.read(&mut room[done..]) {
+            Ok(n) => n,
+            Err(_) => 0,
+        };
+        if got == 0 {
+            break;
+        }
+        done += got;
     }
-    let n = io::read_full(descriptor, room);
-    libc::close(descriptor);
-    n
+    done
+}
+
+// Reads the file into the room, from its start on, and answers how many bytes that are. A file that cannot be read counts as empty, and so
+// does one whose path is no UTF-8, which std does not open.
+pub fn read_file(rt: &impl Files, path: &[u8], room: &mut [u8]) -> usize
+    ensures { IsPrefixLen result room.new }
+{
+    let Ok(path) = from_utf8(path) else {
+        return 0;
+    };
+    let Ok(mut file) = File::open(rt, path) else {
+        return 0;
+    };
+    read_full(&mut file, room)
 }
 
 // Does the file end in LF?
@@ -35,9 +58,9 @@ pub fn ends_in_lf(file: &[u8]) -> bool
     file[n - 1] == LF
 }
 
-// Prints the bytes up to an end.
-pub fn print(text: &[u8], end: usize)
+// Prints the bytes up to an end. On `Ok` all of them are written; on an error of standard output some of them may be.
+pub fn print(rt: &impl Print, text: &[u8], end: usize) -> io::Result<()>
     requires { end ≤ length text.now }
 {
-    io::write_all(STDOUT_FILENO, &text[0..end]);
+    rt.write_all(&text[0..end])
 }

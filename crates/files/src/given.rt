@@ -7,6 +7,8 @@ ghost use Rattle.files.specs.Given.{name_room, file_room, list_room, lists_room,
 use crate::file::{FILE_ROOM, read_file};
 use bases::put::put_bytes;
 use records::record::LONGEST_LINE;
+use std::env::FillError;
+use std::rt::{Env, Files};
 
 // Where each part ends in the room. The name begins where the room does, each other part where the one before it ends.
 #[derive(Clone, Copy)]
@@ -34,37 +36,38 @@ fn put_chrom(room: &mut [u8]) -> usize
     put_bytes(b"chr1", room, 0)
 }
 
-// Reads the name into the room, from its start on, and says where it ends. One that does not fit its room counts as empty: neither is the
-// CHROM of a record.
-fn read_name(room: &mut [u8]) -> usize
+// Reads the name into the room, from its start on, and says where it ends. It is the first argument, whose bytes need not be UTF-8. One
+// that does not fit its room counts as empty: neither is the CHROM of a record.
+fn read_name(rt: &impl Env, room: &mut [u8]) -> usize
     requires { name_room ≤ length room.old }
     ensures { result ≤ name_room }
 {
-    if os::arg_count() < 2 {
-        return put_chrom(room);
+    match rt.arg(1, &mut room[0..NAME_ROOM]) {
+        Ok(n) => n,
+        Err(FillError::TooLong) => 0,
+        Err(FillError::NotPresent) => put_chrom(room),
     }
-    os::arg(1, &mut room[0..NAME_ROOM])
 }
 
 // Reads a file into the room from `at` on, and says where what was read ends. What stands before it stays.
-fn read_behind(path: &[u8], room: &mut [u8], at: usize) -> usize
+fn read_behind(rt: &impl Files, path: &[u8], room: &mut [u8], at: usize) -> usize
     requires { at + file_room ≤ length room.old }
     ensures { (at ≤ result)
         × (result ≤ at + file_room)
         × (take at room.new ≡ take at room.old) }
 {
     let end = at + FILE_ROOM;
-    at + read_file(path, &mut room[at..end])
+    at + read_file(rt, path, &mut room[at..end])
 }
 
 // Reads the name, reference.txt and first.vcf. List 2 is empty.
-pub fn read_list(room: &mut [u8]) -> Given
+pub fn read_list(rt: &(impl Env + Files), room: &mut [u8]) -> Given
     requires { list_room ≤ length room.old }
     ensures { Laid result (length room.new) }
 {
-    let name = read_name(room);
-    let reference = read_behind(b"reference.txt", room, name);
-    let first = read_behind(b"first.vcf", room, reference);
+    let name = read_name(rt, room);
+    let reference = read_behind(rt, b"reference.txt", room, name);
+    let first = read_behind(rt, b"first.vcf", room, reference);
     Given {
         name,
         reference,
@@ -74,13 +77,13 @@ pub fn read_list(room: &mut [u8]) -> Given
 }
 
 // Reads the name, reference.txt, first.vcf and second.vcf.
-pub fn read_lists(room: &mut [u8]) -> Given
+pub fn read_lists(rt: &(impl Env + Files), room: &mut [u8]) -> Given
     requires { lists_room ≤ length room.old }
     ensures { Laid result (length room.new) }
 {
-    let given = read_list(room);
+    let given = read_list(rt, room);
     let first = given.first;
-    let second = read_behind(b"second.vcf", room, first);
+    let second = read_behind(rt, b"second.vcf", room, first);
     Given {
         name: given.name,
         reference: given.reference,

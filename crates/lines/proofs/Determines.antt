@@ -1,6 +1,5 @@
--- Each contract determines its result, and what it leaves in the room that it is lent: any two that it allows for the same arguments are equal.
--- `Post` is the contract as src/ states it.
--- Assumes nothing.
+-- Each contract determines its result, and what it leaves in the room that it is lent: any two that it allows for the same arguments are
+-- equal. `Post` is the contract as src/ states it. Assumes nothing.
 use mathlib.Core.List.{List}
 use mathlib.Core.Path.{sym, ◌∙◌}
 use Prim.Native.Nat.{ℕ}

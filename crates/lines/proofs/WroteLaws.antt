@@ -2,7 +2,8 @@
 --     Wrote                             bytes s written into d from `at` on gave e, and they end at r
 --     wrote_then                        more bytes behind them
 --     wrote_text                        what was written at the start of room, said of an equal text, ends in the room
---     Left                              bytes are left to write into `out` from `at` on: with them it is `goal`, and they end at `end`; it has `size` bytes
+--     Left                              bytes are left to write into `out` from `at` on: with them it is `goal`, and they end at `end`;
+--                                       it has `size` bytes
 --     left_begin, left_then, left_end, left_last
 --                                       before the first is written; behind some of them; behind the last; behind the last ones together
 -- Assumes nothing.

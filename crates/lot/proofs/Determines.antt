@@ -1,5 +1,5 @@
--- Each contract determines its result: any two results that it allows for the same arguments are equal. `lot` is walked by hand; `States` says that a
--- relation is what its contract ensures, as src/ states it, in every model.
+-- Each contract determines its result: any two results that it allows for the same arguments are equal. `Post` is the contract as src/
+-- states it; of `lot`, which is lent records, `States` says that a relation is what its contract ensures, in every model.
 -- Assumes nothing.
 use mathlib.Core.Path.{◌≡◌, refl, sym, ◌∙◌}
 use contract.Lifetimes.{Lfts}

@@ -2,7 +2,6 @@ pub mod BoundLaws
 pub mod Determines
 pub mod Examples
 pub mod LotLaws
-pub mod LotSteps
 pub mod MarksLaws
 pub mod RefusalLaws
 pub mod RunLaws

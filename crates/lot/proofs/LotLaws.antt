@@ -3,7 +3,7 @@
 --     answer_same                the totals do not matter where a row holds
 --     answer_refused, answer_given   what is answered where a row holds, and where none does
 -- Assumes nothing.
-use mathlib.Core.Bool.{Bool, true, false, ◌||◌}
+use mathlib.Core.Bool.{Bool, true, false, ◌||◌, or-true}
 use mathlib.Core.Logic.{◌≢◌}
 use mathlib.Core.Path.{◌≡◌, refl, ap, ◌∙◌}
 use Prim.Native.Nat.{ℕ, ◌-◌}
@@ -14,10 +14,6 @@ use Rattle.bases.specs.Pick.{pick}
 use Rattle.lot.specs.declared.run.Run.{Run}
 use Rattle.lot.specs.Lot.{row_of, refused_lot, given_lot, answer_of}
 use Rattle.lot.specs.Run.{most_runs}
-
-or-true : (t : Bool) → t || true ≡ true
-or-true true = refl
-or-true false = refl
 
 pub row_many : (n : ℕ) (large : Bool) → ltb most_runs n ≡ true → row_of n large ≡ 30
 row_many n large e = ap (λ (t : Bool). pick t 30 (pick large 31 0)) (ap (λ (t : Bool). eqb n 0 || t) e ∙ or-true (eqb n 0))

@@ -1,4 +1,5 @@
--- Where each run's counts are those that the call `count` answers for its marks, each total equals the count over the marks of all runs joined.
+-- Where each run's counts are those that the call `count` answers for its marks, each total equals the count over the marks of all runs
+-- joined.
 --     run_join         the six counts of two control runs joined
 --     run_of_marks     the run made of what `count` answers has the counts of its entries' marks
 --     total_of_marks   of all runs joined

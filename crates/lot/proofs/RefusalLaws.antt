@@ -1,5 +1,5 @@
--- The refusals of a lot, in the request's words: 30 no run or more than 256, 31 a run's counts exceed 512 in a list, 30 first. A refusal is given exactly
--- where its row holds and 30 does not come before it, and every other lot is answered.
+-- The refusals of a lot, in the request's words: 30 no run or more than 256, 31 a run's counts exceed 512 in a list, 30 first. A refusal
+-- is given exactly where its row holds and 30 does not come before it, and every other lot is answered.
 --     WrongRuns, wrong_iff        row 30
 --     Large, large_iff            a run's counts exceed 512 in a list
 --     HasLarge, any_large_iff     one of the runs is such: row 31

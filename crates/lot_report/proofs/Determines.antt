@@ -1,6 +1,5 @@
--- Each contract determines its result, and what it leaves in the room that it is lent: any two that it allows for the same arguments are equal.
--- `Post` is the contract as src/ states it. What `read_file` reads is not told by a contract.
--- Assumes nothing.
+-- Each contract determines its result, and what it leaves in the room that it is lent: any two that it allows for the same arguments are
+-- equal. `Post` is the contract as src/ states it. What `read_file` reads is not told by a contract. Assumes nothing.
 use mathlib.Core.List.{List}
 use mathlib.Core.Path.{sym, ◌∙◌}
 use Prim.Native.Nat.{ℕ}

@@ -1,7 +1,8 @@
 -- Laws of the lines of runs.tsv.
 --     run_unnamed, run_named                   a line that begins with a TAB or is empty, and one that does not
 --     counts_zero, counts_past, counts_stop, counts_more
---                                              n counts from a place on: none, behind the end, at a field that is no count, and at one that is
+--                                              n counts from a place on: none, behind the end, at a field that is no count, and at one
+--                                              that is
 --     counts_field, run_field                  each count of a line begins within it, and is all digits
 --     bad_none, bad_stop, bad_more             the first line that is no run: of no line, the first, or behind it
 --     bad_few, bad_runs                        it is one of the lines; where there is none, each is a run

@@ -1,6 +1,7 @@
 -- Laws of what normalise prints.
 --     normalised_open                         the reference file does not end in LF
---     answer_printable, text_refused          else, where the call `normal` is refused: its four numbers can be printed, and they are what is printed
+--     answer_printable, text_refused          else, where the call `normal` is refused: its four numbers can be printed, and they are what is
+--                                             printed
 --     text_given                              else what it wrote is
 -- Assumes nothing.
 use mathlib.Core.Bool.{Bool, true, false}
@@ -24,7 +25,7 @@ use Rattle.files.specs.File.{ends_in_lf?, reference_in}
 use Rattle.lines.specs.Lines.{largest_number, refused_text}
 use Rattle.written.specs.Written.{written_text}
 use Rattle.told.proofs.PrintableLaws.{list_printable}
-use Rattle.told.proofs.ToldLaws.{file_open, file_past, told_text, Numbers, numbers_printable, numbers_refused, answer_numbers}
+use Rattle.told.proofs.ToldLaws.{file_open, file_past, told_text_lem, Numbers, numbers_printable, numbers_refused, answer_numbers}
 use Rattle.normalise.specs.Normalised.{list_refusal, normalised_text}
 
 pub normalised_open : (file name text : List ℕ) → ends_in_lf? file ≡ false → normalised_text file name text ≡ refused_text 1 0 0 0
@@ -74,5 +75,5 @@ module _ (file name text out : List ℕ) (ends : ends_in_lf? file ≡ true) (roo
   text_given z =
       let zero : r.number ≡ 0 = sym number_same ∙ z in
       let given = normal_given reference name text out zero in
-      let told = told_text (list_refusal file name text) (written_text (bases_of reference) text) (sym (ap (λ (x : Refusal). x.number) same) ∙ zero) in
+      let told = told_text_lem (list_refusal file name text) (written_text (bases_of reference) text) (sym (ap (λ (x : Refusal). x.number) same) ∙ zero) in
       (ap (λ (x : Answer). x.value) (answered ∙ given.0) ∙ ap length (sym told), given.1 ∙ ap (put out 0) (sym told))

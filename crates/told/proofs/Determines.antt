@@ -1,5 +1,5 @@
--- The contract of `mark_files` determines what it answers and the marks that it leaves: any two that it allows for the same arguments are equal.
--- `Post` is the contract as src/ states it.
+-- The contract of `mark_files` determines what it answers and the marks that it leaves: any two that it allows for the same arguments are
+-- equal. `Post` is the contract as src/ states it.
 -- Assumes nothing.
 use mathlib.Core.List.{List}
 use mathlib.Core.Path.{sym, ◌∙◌}

@@ -1,7 +1,7 @@
 -- What is told, by whether there is a refusal.
 --     file_open, file_past, file_ends
 --                                the first refusal, by whether the reference file ends in LF
---     told_refused, told_text    its line; else the text
+--     told_refused, told_text_lem    its line; else the text
 --     Numbers                    four numbers are those of a refusal
 --     numbers_printable, numbers_refused, numbers_text, answer_numbers
 --                                they can be printed; what is told, by them
@@ -41,8 +41,8 @@ module _ (r : Refusal) (text : List ℕ) where
   pub told_refused : r.number ≢ 0 → told_text r text ≡ refused_text r.number r.list r.line r.place
   told_refused n = rw (ne_eqb r.number 0 n)
 
-  pub told_text : r.number ≡ 0 → told_text r text ≡ text
-  told_text z = rw (eq-eqb r.number 0 z)
+  pub told_text_lem : r.number ≡ 0 → told_text r text ≡ text
+  told_text_lem z = rw (eq-eqb r.number 0 z)
 
 pub record Numbers (number list line place : ℕ) (r : Refusal) : Type 0 where
   pub same_number : number ≡ r.number
@@ -63,7 +63,7 @@ module _ (number list line place : ℕ) (r : Refusal) (s : Numbers number list l
   numbers_refused text n = told_refused r text (rw s.same_number at n) ∙ rw (s.same_number, s.same_list, s.same_line, s.same_place)
 
   pub numbers_text : (text : List ℕ) → number ≡ 0 → told_text r text ≡ text
-  numbers_text text z = told_text r text (sym s.same_number ∙ z)
+  numbers_text text z = told_text_lem r text (sym s.same_number ∙ z)
 
 -- those of an answer that is a refusal
 pub answer_numbers : (a : Answer) (r : Refusal) → a ≡ refused_answer r → Numbers a.number a.list a.line a.place r
