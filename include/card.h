@@ -1,5 +1,5 @@
 /*
- * card.h   the comparison card for C and C++: links with libcard_abi.a (x86-64), which `rt staticlib card_abi` puts in
+ * card.h   the comparison card for C and C++: links with libcard_abi.a (x86-64), which `programs/build card_abi` puts in
  * target/staticlib. examples/c/matched.c is a whole program that uses it.
  *
  * Every call is a plain function. It allocates nothing, keeps no pointer and has no state: it judges all its input anew, and

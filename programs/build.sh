@@ -1,9 +1,9 @@
 # shellcheck shell=bash
 # Whether a program is built from the sources at hand, and its building. Sourced by shared.sh where that stands in the repository.
 #
-# rt leaves target/stamp/PROGRAM once a program is proved, built and run, and takes it away before it proves it anew. So a program is of
-# its sources where its stamp is there and no source is younger. A checkout can make files younger that have not changed: then rt, which
-# keeps a sum of their bytes, sees in a second that there is nothing to prove, and the stamp is given the time at which it was asked.
+# A program is put into target/bin once it is proved, built and run, and target/stamp/PROGRAM then has the time at which rt was asked for it.
+# So a program is of its sources where its stamp is there and no source is younger. A checkout can make files younger that have not changed:
+# then rt, which keeps what it proved, sees in seconds that there is nothing to prove.
 
 : "${here:?}" "${work:?}" "${programs:?}"
 
@@ -16,7 +16,7 @@ crates_of() {
             count = split(deps[crate], on, " ")
             for (k = 1; k <= count; k++) visit(on[k])
         }
-        { sub(/#.*/, ""); if (split($0, part, ":") == 2) deps[part[1]] = part[2] }
+        { sub(/#.*/, ""); if (split($0, part, ":") == 2) { sub(/ .*/, "", part[1]); deps[part[1]] = part[2] } }
         END { count = split(wanted, crates, " "); for (k = 1; k <= count; k++) visit(crates[k]) }' "$here/crates.txt"
 }
 
@@ -43,23 +43,29 @@ why_build() {
     fi
 }
 
-# progress COUNT: reads what rt prints, and says which of so many crates are proved.
+# progress COUNT: reads what rt prints, and says which of so many crates are proved. Of a crate that it proved before it says nothing.
 progress() {
-    local line proved=0
+    local line crate='' proved=0
     while IFS= read -r line; do
-        [[ $line =~ ^rt:\ ([A-Za-z0-9_]+)\ proved\ \((.*)\)$ ]] || continue
-        proved=$((proved + 1))
-        [[ ${BASH_REMATCH[2]} = unchanged* ]] || say "crate $proved of $1, ${BASH_REMATCH[1]}: proved (${BASH_REMATCH[2]})"
+        if [[ $line =~ ^crate\ ([a-z0-9_]+): ]]; then
+            crate=${BASH_REMATCH[1]}
+        elif [[ $line = logic=proved* && -n $crate ]]; then
+            proved=$((proved + 1))
+            say "crate $proved of $1, $crate: proved"
+        fi
     done
 }
 
-# by_rt COUNT WORD..: runs rt with these words, which prove so many crates, and says how far it is. One at a time.
+# by_rt CRATE WORD: runs rt with this word in the crate's folder, which proves it and what it stands on, and says how far it is. One at a time.
 by_rt() {
-    local count=$1
-    shift
-    (cd "$here" && rt "$@") 2>&1 | tee "$work/log" | progress "$count" && return
+    (cd "$here/crates/$1" && rt "$2" </dev/null) 2>&1 | tee "$work/log" | progress "$(crates_of "$1" | wc -l)" && return
     tail -n 20 "$work/log" >&2
-    fail "rt $*: not proved or not built; the lines above are the last of what it said"
+    fail "rt $2 in crates/$1: not proved or not built; the lines above are the last of what it said"
+}
+
+# put_built CRATE FILE PLACE: copies what rt built to its place.
+put_built() {
+    mkdir -p "${3%/*}" && cp --remove-destination "$here/crates/$1/out/$2" "$3" || fail "$3 could not be written"
 }
 
 # need_rt WHY: says why something is built, and how long that takes; fails where there is no rt.
@@ -81,7 +87,9 @@ need() {
         why=$(why_build "$here/target/stamp/$program" "$programs/$program" "$program")
         [ -n "$why" ] || continue
         need_rt "$why"
-        by_rt "$(crates_of "$program" | wc -l)" check "$program"
+        by_rt "$program" run
+        put_built "$program" "$program" "$programs/$program"
+        mkdir -p "$here/target/stamp"
         touch -r "$work/began" "$here/target/stamp/$program"
         exec 9>&-
     done
@@ -93,7 +101,8 @@ need_library() {
     why=$(why_build "$library" "$library" "$1")
     [ -n "$why" ] || return 0
     need_rt "$why"
-    by_rt "$(crates_of "$1" | wc -l)" staticlib "$1"
+    by_rt "$1" lib
+    put_built "$1" "lib$1.a" "$library"
     touch -r "$work/began" "$library"
     exec 9>&-
 }

@@ -130,26 +130,27 @@ lay_files() {
     done
 }
 
-# Leaves in `starter` the words that start a program here. On x86-64 it starts by itself; elsewhere by the kit's emulator and C
-# library, or by qemu-x86_64.
+# Leaves in `starter` the words that start a program here. On x86-64 it starts by itself, or with the kit's C library; elsewhere by
+# qemu-x86_64.
 find_starter() {
     local loader=/usr/x86_64-linux-gnu/lib/ld-linux-x86-64.so.2
     [ -z "${starter_found-}" ] || return 0
     starter=() starter_found=1
     if [ "$(uname -m)" = x86_64 ] && [ -e /lib64/ld-linux-x86-64.so.2 ]; then
         return
-    elif command -v rt >/dev/null; then
-        starter=("$by_kit")
     elif command -v qemu-x86_64 >/dev/null; then
         starter=(qemu-x86_64)
         [ -e /lib64/ld-linux-x86-64.so.2 ] || [ ! -e "$loader" ] || starter+=("$loader" --library-path "${loader%/*}")
+    elif command -v rt >/dev/null; then
+        starter=("$by_kit")
     else
         fail "the programs are for x86-64 Linux, and there is no qemu-x86_64 to run them here; $0 --help says how to get it"
     fi
 }
 
 # start FOLDER PROGRAM WORD..: runs it in the folder. Leaves what it prints in $work/printed, and in `number`, `list`, `line` and `place`
-# those of its refusal, or 0. The programs have no exit status of their own: another than 0 means that it was not started, or was stopped.
+# those of its refusal, or 0. A program ends with 0 where it wrote all that it prints, a refusal too: another status means that it was not
+# started, was stopped, or could not write.
 start() {
     local folder=$1 program=$programs/$2 ended word
     shift 2

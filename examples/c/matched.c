@@ -12,7 +12,7 @@
  *
  * To build it on x86-64 Linux, in the top folder:
  *
- *     rt staticlib card_abi
+ *     programs/build card_abi
  *     cc -O2 -Iinclude examples/c/matched.c target/staticlib/libcard_abi.a -o matched
  */
 #include <stdio.h>

@@ -7,7 +7,7 @@
 use std::fmt;
 
 /// The version of include/card.h that this file follows (CARD_VERSION).
-const VERSION: u32 = 2 << 16 | 1;
+const VERSION: u32 = 3 << 16;
 
 /// The room that a plan, a buffer of marks and one of entries must have: so many clusters, bytes, entries (CARD_LEAST).
 const LEAST: usize = 1024;

@@ -11,7 +11,7 @@
 //!
 //! To build it on x86-64 Linux, in the top folder:
 //!
-//!     rt staticlib card_abi
+//!     programs/build card_abi
 //!     rustc --edition 2021 -O -L target/staticlib examples/rust/main.rs -o matched
 
 mod card;
