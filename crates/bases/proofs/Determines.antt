@@ -7,8 +7,6 @@ use Prim.Native.Nat.{ℕ}
 use contract.Lifetimes.{Lfts}
 use denote.Triple.Clauses.{AtExit}
 use borrow.Fn.Kinds.{ParamKind, ResultKind, Dens, res_t, ended_of, Out}
-use Rattle.bases.proofs.bytes.agree.Kinds as bytes-agree-kinds
-use Rattle.bases.proofs.bytes.agree.Reads as bytes-agree
 use Rattle.bases.proofs.bytes.same_bytes.Kinds as same-bytes-kinds
 use Rattle.bases.proofs.bytes.same_bytes.Reads as same_bytes
 use Rattle.bases.proofs.letter.letter.Kinds as letter-kinds
@@ -35,12 +33,12 @@ use Rattle.bases.proofs.place.pos_of.Kinds as pos-of-kinds
 use Rattle.bases.proofs.place.pos_of.Reads as pos_of
 use Rattle.bases.proofs.place.place_of.Kinds as place-of-kinds
 use Rattle.bases.proofs.place.place_of.Reads as place_of
-use Rattle.bases.proofs.put.put_bytes.Kinds as put-bytes-kinds
-use Rattle.bases.proofs.put.put_bytes.Reads as put_bytes
-use Rattle.bases.proofs.put.put_byte.Kinds as put-byte-kinds
-use Rattle.bases.proofs.put.put_byte.Reads as put_byte
-use Rattle.bases.proofs.put.put_bases.Kinds as put-bases-kinds
-use Rattle.bases.proofs.put.put_bases.Reads as put-bases
+use Rattle.bases.proofs.put.Writer.bytes.Kinds as writer-bytes-kinds
+use Rattle.bases.proofs.put.Writer.bytes.Reads as writer-bytes
+use Rattle.bases.proofs.put.Writer.bases.Kinds as writer-bases-kinds
+use Rattle.bases.proofs.put.Writer.bases.Reads as writer-bases
+use Rattle.bases.proofs.put.Writer.byte.Kinds as writer-byte-kinds
+use Rattle.bases.proofs.put.Writer.byte.Reads as writer-byte
 use Rattle.bases.proofs.reference.base_count.Kinds as base-count-kinds
 use Rattle.bases.proofs.reference.base_count.Reads as base-count
 use Rattle.bases.proofs.reference.base_is.Kinds as base-is-kinds
@@ -109,29 +107,8 @@ place_of_determines κs a z z' e e' p q = p ∙ sym q
 pub has_any_period_determines : OneResult 1 has-any-period-kinds.ps has-any-period-kinds.r has-any-period.Post
 has_any_period_determines κs a z z' e e' p q = p ∙ sym q
 
-pub bytes_agree_determines : OneResult 2 bytes-agree-kinds.ps bytes-agree-kinds.r bytes-agree.Post
-bytes_agree_determines κs a z z' e e' p q = p ∙ sym q
-
 pub same_bytes_determines : OneResult 2 same-bytes-kinds.ps same-bytes-kinds.r same_bytes.Post
 same_bytes_determines κs a z z' e e' p q = p ∙ sym q
-
-pub put_bytes_determines : OneResult 2 put-bytes-kinds.ps put-bytes-kinds.r put_bytes.Post
-put_bytes_determines κs a z z' e e' p q = p.0 ∙ sym q.0
-
-pub put_bytes_leaves : OneLeft 2 put-bytes-kinds.ps put-bytes-kinds.r put_bytes.Post (List ℕ) (λ κs e. e.1.0.now)
-put_bytes_leaves κs a z z' e e' p q = p.1 ∙ sym q.1
-
-pub put_byte_determines : OneResult 1 put-byte-kinds.ps put-byte-kinds.r put_byte.Post
-put_byte_determines κs a z z' e e' p q = p.0 ∙ sym q.0
-
-pub put_byte_leaves : OneLeft 1 put-byte-kinds.ps put-byte-kinds.r put_byte.Post (List ℕ) (λ κs e. e.1.0.now)
-put_byte_leaves κs a z z' e e' p q = p.1 ∙ sym q.1
-
-pub put_bases_determines : OneResult 2 put-bases-kinds.ps put-bases-kinds.r put-bases.Post
-put_bases_determines κs a z z' e e' p q = p.0 ∙ sym q.0
-
-pub put_bases_leaves : OneLeft 2 put-bases-kinds.ps put-bases-kinds.r put-bases.Post (List ℕ) (λ κs e. e.1.0.now)
-put_bases_leaves κs a z z' e e' p q = p.1 ∙ sym q.1
 
 pub base_count_determines : OneResult 1 base-count-kinds.ps base-count-kinds.r base-count.Post
 base_count_determines κs a z z' e e' p q = p ∙ sym q
@@ -142,8 +119,26 @@ base_is_determines κs a z z' e e' p q = p ∙ sym q
 pub bases_alike_determines : OneResult 1 bases-alike-kinds.ps bases-alike-kinds.r bases-alike.Post
 bases_alike_determines κs a z z' e e' p q = p ∙ sym q
 
-pub put_stretch_determines : OneResult 2 put-stretch-kinds.ps put-stretch-kinds.r put-stretch.Post
-put_stretch_determines κs a z z' e e' p q = p.0 ∙ sym q.0
+pub put_stretch_determines : OneLeft 3 put-stretch-kinds.ps put-stretch-kinds.r put-stretch.Post ℕ (λ κs e. e.1.1.1.0.now.at)
+put_stretch_determines κs a z z' e e' p q = p.at ∙ sym q.at
 
-pub put_stretch_leaves : OneLeft 2 put-stretch-kinds.ps put-stretch-kinds.r put-stretch.Post (List ℕ) (λ κs e. e.1.1.1.0.now)
-put_stretch_leaves κs a z z' e e' p q = p.1 ∙ sym q.1
+pub put_stretch_leaves : OneLeft 3 put-stretch-kinds.ps put-stretch-kinds.r put-stretch.Post (List ℕ) (λ κs e. e.1.1.1.0.now.room.now)
+put_stretch_leaves κs a z z' e e' p q = p.room ∙ sym q.room
+
+pub put_bytes_determines : OneLeft 3 writer-bytes-kinds.ps writer-bytes-kinds.r writer-bytes.Post ℕ (λ κs e. e.0.now.at)
+put_bytes_determines κs a z z' e e' p q = p.at ∙ sym q.at
+
+pub put_bytes_leaves : OneLeft 3 writer-bytes-kinds.ps writer-bytes-kinds.r writer-bytes.Post (List ℕ) (λ κs e. e.0.now.room.now)
+put_bytes_leaves κs a z z' e e' p q = p.room ∙ sym q.room
+
+pub put_bases_determines : OneLeft 3 writer-bases-kinds.ps writer-bases-kinds.r writer-bases.Post ℕ (λ κs e. e.0.now.at)
+put_bases_determines κs a z z' e e' p q = p.at ∙ sym q.at
+
+pub put_bases_leaves : OneLeft 3 writer-bases-kinds.ps writer-bases-kinds.r writer-bases.Post (List ℕ) (λ κs e. e.0.now.room.now)
+put_bases_leaves κs a z z' e e' p q = p.room ∙ sym q.room
+
+pub put_byte_determines : OneLeft 2 writer-byte-kinds.ps writer-byte-kinds.r writer-byte.Post ℕ (λ κs e. e.0.now.at)
+put_byte_determines κs a z z' e e' p q = p.at ∙ sym q.at
+
+pub put_byte_leaves : OneLeft 2 writer-byte-kinds.ps writer-byte-kinds.r writer-byte.Post (List ℕ) (λ κs e. e.0.now.room.now)
+put_byte_leaves κs a z z' e e' p q = p.room ∙ sym q.room

@@ -1,13 +1,12 @@
 -- Laws of letters.
 --     Upper, Writes, Letter        a letter as its upper-case byte; a byte that writes one, in either case; a byte that is one
 --     letter_is                    which letter a byte is: the one that it writes, in either case
---     upper_letter, lower_letter, other_letter
+--     upper_letter, lower_letter, byte_letter, other_letter
 --                                  whether it is one, by its byte
 --     letter_and, letter_none      the letter that it then is, by its bits; none
 --     letter_upper                 that is no letter, or one as its upper-case byte
 --     letter_twice, letter_bases   so the letter of a letter is itself, and a letter where the byte is one
---     letters_at, letters_stop, letters_more, letters_past
---                                  all are letters from i on: by the byte at i, and at the end
+--     letters_all                  all are letters, as the `all` of a slice
 --     letters_iff                  all are letters exactly if each is
 --     bases_length, bases_at, bases_drop, bases_take, bases_part, bases_append
 --                                  the bases of bytes: as many, place by place, of what is left, of the first n, of a part, of two texts
@@ -17,15 +16,14 @@ use mathlib.Core.Bool.{Bool, true, false, not, ◌&&◌}
 use mathlib.Core.List.{List, [], ◌∷◌, ◌++◌}
 use mathlib.Core.Logic.{◌↔◌, ◌⊎◌, inl, inr, ⊎_elim}
 use mathlib.Core.Path.{◌≡◌, refl, sym, ap, ap₂, subst, ◌∙◌}
-use Prim.Native.Nat.{ℕ, zero, suc, ◌+◌, ◌≤◌, ◌<◌}
+use Prim.Native.Nat.{ℕ, zero, suc, ◌+◌, ◌<◌}
 use native.Mathlib.Nat.{not-suc-le-zero, le_of_suc-le-suc}
-use native.Mathlib.Numerals.{add-one}
 use native.Mathlib.Omega.{arith}
 use lib.Bits.{bit_and}
 use lib.Dec.{T, eqb, eqb→eq}
-use lib.ListN.{length, get_or, take, drop, drop_of_length-le}
-use lib.Seq.{drop-cons}
+use lib.ListN.{length, get_or, take, drop}
 use borrow.Author.Tests.{eqb-true, not-false}
+use Rattle.std.specs.List.{list_all}
 use Rattle.bases.specs.Letter.{writes?, letter_among, letter_of, is_letter?, all_letters?, bases_of}
 use Rattle.bases.proofs.TestLaws.{both, either, of_true, is_true, is_false}
 use Rattle.bases.specs.Pick.{pick}
@@ -117,6 +115,18 @@ to_lower b x (inr (inr (inr (inr e)))) h = inr (inr (inr (inr (h ∙ rw e))))
 pub lower_letter : (b : ℕ) → Lower b → is_letter? b ≡ true
 lower_letter b l = is_true (is_letter? b) ((letter_iff b).1 (of_lower b l))
 
+-- in either case
+abbrev pub Byte : ℕ → Type 0
+Byte b = (b ≡ 65) ⊎ ((b ≡ 67) ⊎ ((b ≡ 71) ⊎ ((b ≡ 78) ⊎ ((b ≡ 84) ⊎ Lower b))))
+
+pub byte_letter : (b : ℕ) → Byte b → is_letter? b ≡ true
+byte_letter b (inl e) = upper_letter b (inl e)
+byte_letter b (inr (inl e)) = upper_letter b (inr (inl e))
+byte_letter b (inr (inr (inl e))) = upper_letter b (inr (inr (inl e)))
+byte_letter b (inr (inr (inr (inl e)))) = upper_letter b (inr (inr (inr (inl e))))
+byte_letter b (inr (inr (inr (inr (inl e))))) = upper_letter b (inr (inr (inr (inr e))))
+byte_letter b (inr (inr (inr (inr (inr l))))) = lower_letter b l
+
 pub other_letter : (b : ℕ) → (Upper b → ⊥) → (Lower b → ⊥) → is_letter? b ≡ false
 other_letter b n m = is_false (is_letter? b) (λ t. go ((letter_iff b).0 t))
   where
@@ -160,19 +170,10 @@ letter_twice b = ⊎_elim (λ z. rw z zero_none) (λ w. upper_self (letter_of b)
 pub letter_bases : (b : ℕ) → is_letter? (letter_of b) ≡ is_letter? b
 letter_bases b = ap (λ (x : ℕ). not (eqb x 0)) (letter_twice b)
 
-pub letters_at : (bs : List ℕ) (i : ℕ) → i < length bs → all_letters? (drop i bs) ≡ is_letter? (get_or bs i 0) && all_letters? (drop (i + 1) bs)
+pub letters_all : (bs : List ℕ) → list_all is_letter? bs ≡ all_letters? bs
 unfolding all_letters?
-letters_at bs i h = rw (add-one, drop-cons bs i 0)
-
-pub letters_stop : (bs : List ℕ) (i : ℕ) → i < length bs → is_letter? (get_or bs i 0) ≡ false → all_letters? (drop i bs) ≡ false
-letters_stop bs i h e = letters_at bs i h ∙ rw e
-
-pub letters_more : (bs : List ℕ) (i : ℕ) → i < length bs → is_letter? (get_or bs i 0) ≡ true → all_letters? (drop i bs) ≡ all_letters? (drop (i + 1) bs)
-letters_more bs i h e = letters_at bs i h ∙ rw e
-
-pub letters_past : (bs : List ℕ) (i : ℕ) → length bs ≤ i → all_letters? (drop i bs) ≡ true
-unfolding all_letters?
-letters_past bs i h = rw (drop_of_length-le bs h)
+letters_all [] = refl
+letters_all (b ∷ bs) = rw (letters_all bs)
 
 pub bases_length : (bs : List ℕ) → length (bases_of bs) ≡ length bs
 bases_length [] = refl

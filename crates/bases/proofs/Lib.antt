@@ -6,6 +6,7 @@ pub mod PartLaws
 pub mod PeriodLaws
 pub mod PlaceLaws
 pub mod PutLaws
+pub mod WroteLaws
 pub mod ReferenceLaws
 pub mod SameLaws
 pub mod StretchLaws

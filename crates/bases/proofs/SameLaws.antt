@@ -1,45 +1,38 @@
 -- Laws of agreeing and equal lists.
 --     agree_nil                           every list agrees with the empty one
---     agree_stop, agree_more, agree-past  two lists from i on: by what stands at i, and where one has ended
+--     agree_all_bases                     as `all` over the two side by side
+--     agree_past_second                   two lists, the second from where it has ended
 --     agree_iff, same_iff                 what the tests say, place by place and whole
---     same_bases_other, same_bases_long   bases of bytes, by their lengths
+--     same_eq, eq_same                    equal lists are those that `==` finds equal, whichever stands first
 --     bases_differ                        bytes that do not spell the same bases have other ones
 -- Assumes nothing.
 use mathlib.Core.Bool.{true, false, ◌&&◌}
 use mathlib.Core.List.{List, [], ◌∷◌}
 use mathlib.Core.Logic.{◌↔◌, ◌≢◌}
-use mathlib.Core.Path.{◌≡◌, refl, ap, ◌∙◌}
-use Prim.Native.Nat.{ℕ, zero, suc, ◌+◌, ◌≤◌, ◌<◌}
+use mathlib.Core.Path.{◌≡◌, refl, sym, ap}
+use Prim.Native.Nat.{ℕ, zero, suc, ◌≤◌, ◌<◌}
 use native.Mathlib.Nat.{not-suc-le-zero, le_of_suc-le-suc}
-use native.Mathlib.Numerals.{add-one}
 use native.Mathlib.Omega.{arith}
 use lib.Dec.{T, eqb, eqb→eq}
 use lib.ListN.{length, get_or, drop, drop_of_length-le}
-use lib.Seq.{drop-cons, ext_get_or}
-use borrow.Author.Tests.{eq-eqb, ne_eqb}
-use Rattle.bases.specs.Letter.{bases_of}
+use lib.Pointwise.{pointwise, bytes_decides}
+use lib.Seq.{ext_get_or}
+use borrow.Author.Tests.{eq-eqb}
+use Rattle.std.specs.List.{list_all, zip}
+use Rattle.bases.specs.Letter.{letter_of, bases_of}
 use Rattle.bases.specs.Same.{agree?, same?, same_bases?}
-use Rattle.bases.proofs.LetterLaws.{bases_length}
-use Rattle.bases.proofs.TestLaws.{both, of_true, of_false}
+use Rattle.bases.proofs.TestLaws.{both, of_true, of_false, is_true, one_test}
 
 pub agree_nil : (x : List ℕ) → agree? x [] ≡ true
 unfolding agree?
 agree_nil [] = refl
 agree_nil (a ∷ x) = refl
 
-agree_at : (x y : List ℕ) (i : ℕ) → i < length x → i < length y → agree? (drop i x) (drop i y) ≡ eqb (get_or x i 0) (get_or y i 0) && agree? (drop (i + 1) x) (drop (i + 1) y)
+pub agree_all_bases : (x y : List ℕ) → list_all (λ p. eqb (letter_of p.0) (letter_of p.1)) (zip x y) ≡ agree? (bases_of x) (bases_of y)
 unfolding agree?
-agree_at x y i h k = rw (add-one i, drop-cons x i 0, drop-cons y i 0)
-
-pub agree_stop : (x y : List ℕ) (i : ℕ) → i < length x → i < length y → (get_or x i 0 ≡ get_or y i 0 → ⊥) → agree? (drop i x) (drop i y) ≡ false
-agree_stop x y i h k n = agree_at x y i h k ∙ rw (ne_eqb _ _ n)
-
-pub agree_more : (x y : List ℕ) (i : ℕ) → i < length x → i < length y → get_or x i 0 ≡ get_or y i 0 → agree? (drop i x) (drop i y) ≡ agree? (drop (i + 1) x) (drop (i + 1) y)
-agree_more x y i h k e = agree_at x y i h k ∙ rw (eq-eqb _ _ e)
-
-pub agree_past_first : (x y : List ℕ) (i : ℕ) → length x ≤ i → agree? (drop i x) y ≡ true
-unfolding agree?
-agree_past_first x y i h = rw (drop_of_length-le x {i = i} h)
+agree_all_bases [] y = refl
+agree_all_bases (a ∷ x) [] = refl
+agree_all_bases (a ∷ x) (b ∷ y) = rw (agree_all_bases x y)
 
 pub agree_past_second : (x y : List ℕ) (i : ℕ) → length y ≤ i → agree? x (drop i y) ≡ true
 agree_past_second x y i h = rw (drop_of_length-le y {i = i} h) (agree_nil x)
@@ -76,11 +69,19 @@ same_iff x y = (to, of)
         (both (eqb (length x) (length y)) (agree? x y)).1
         (of_true (eq-eqb _ _ (ap length e)), (agree_iff x y).1 (λ i h k. ap (λ (z : List ℕ). get_or z i 0) e))
 
-pub same_bases_other : (a b : List ℕ) → (length a ≡ length b → ⊥) → same_bases? a b ≡ false
-same_bases_other a b n = rw (bases_length a, bases_length b, ne_eqb _ _ n)
+-- the library's equality of two lists
+pub same_eq : (x y : List ℕ) → pointwise eqb x y ≡ same? x y
+same_eq x y = one_test _ _ (
+  λ t. (same_iff x y).1 ((bytes_decides x y).0 (is_true _ t)),
+  λ t. of_true ((bytes_decides x y).1 ((same_iff x y).0 t)),
+)
 
-pub same_bases_long : (a b : List ℕ) → length a ≡ length b → same_bases? a b ≡ agree? (bases_of a) (bases_of b)
-same_bases_long a b e = rw (bases_length a, bases_length b, eq-eqb _ _ e)
+-- the same, with the two told the other way round
+pub eq_same : (x y : List ℕ) → pointwise eqb y x ≡ same? x y
+eq_same x y = one_test _ _ (
+  λ t. (same_iff x y).1 (sym ((bytes_decides y x).0 (is_true _ t))),
+  λ t. of_true ((bytes_decides y x).1 (sym ((same_iff x y).0 t))),
+)
 
 pub bases_differ : (a b : List ℕ) → same_bases? a b ≡ false → bases_of a ≢ bases_of b
 bases_differ a b s e = of_false s ((same_iff (bases_of a) (bases_of b)).1 e)

@@ -8,3 +8,4 @@ pub mod Put
 pub mod Reference
 pub mod Same
 pub mod Stretch
+pub mod Wrote

@@ -3,21 +3,22 @@
 ghost use Rattle.std.specs.Prelude.{◌≡◌};
 ghost use Rattle.bases.specs.Letter.{letter_of, is_letter?, all_letters?};
 
-// All bits of a byte but the one that is set in lower case and not in upper case.
+// All bits of a byte but the one that is set in lower case and not in upper case. `to_ascii_uppercase` is no plainer where this is used: it
+// asks again for what is_letter has told.
 const UPPER: u8 = 223;
 
 // Is the byte a letter, in either case?
 pub fn is_letter(byte: u8) -> bool
     ensures { result ≡ is_letter? byte }
 {
-    match byte {
-        b'A' | b'C' | b'G' | b'N' | b'T' => true,
-        b'a' | b'c' | b'g' | b'n' | b't' => true,
-        _ => false,
-    }
+    matches!(
+        byte,
+        b'A' | b'C' | b'G' | b'N' | b'T' | b'a' | b'c' | b'g' | b'n' | b't'
+    )
 }
 
-// The letter that a byte is, in either case, as its upper-case byte, or 0 where it is none.
+// The letter that a byte is, in either case, as its upper-case byte, or 0 where it is none: `letter_of` is 0 there, which
+// `bases_of` maps over every byte of a text.
 pub fn letter(byte: u8) -> u8
     ensures { result ≡ letter_of byte }
 {
@@ -28,12 +29,5 @@ pub fn letter(byte: u8) -> u8
 pub fn all_letters(bytes: &[u8]) -> bool
     ensures { result ≡ all_letters? bytes.now }
 {
-    let mut i: usize = 0;
-    while i < bytes.len() {
-        if !is_letter(bytes[i]) {
-            return false;
-        }
-        i += 1;
-    }
-    true
+    bytes.iter().all(|byte| is_letter(*byte))
 }

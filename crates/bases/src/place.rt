@@ -4,11 +4,11 @@ ghost use Rattle.bases.specs.Place.{pos_of, place_of};
 ghost use Rattle.bases.specs.Reference.{longest_reference};
 
 // A position as VCF writes it.
-#[derive(Clone, Copy)]
+#[derive(Clone, Copy, PartialEq, Eq, PartialOrd, Ord)]
 pub struct Pos(pub usize);
 
 // A place in the reference.
-#[derive(Clone, Copy)]
+#[derive(Clone, Copy, PartialEq, Eq, PartialOrd, Ord)]
 pub struct Place(pub usize);
 
 // The POS of a place.

@@ -1,44 +1,44 @@
-// Bytes written into lent room. Each function says where what it wrote ends, and leaves every other byte of the room as it was.
-ghost use Rattle.std.specs.Prelude.{◌≡◌, [], ◌∷◌, ◌+◌, ◌≤◌, ◌<◌, length};
+// Bytes written into lent room, one behind another. What writes says what it wrote, and leaves every other byte of the room as it was.
+ghost use Rattle.std.specs.Prelude.{[], ◌∷◌, length};
 ghost use Rattle.bases.specs.Letter.{bases_of};
-ghost use Rattle.bases.specs.Put.{put};
+ghost use Rattle.bases.specs.Wrote.{HasRoom, Wrote};
 
 use crate::letter::letter;
 
-// Writes the bytes into `out` from `at` on.
-pub fn put_bytes(bytes: &[u8], out: &mut [u8], at: usize) -> usize
-    requires { at + length bytes.now ≤ length out.old }
-    ensures { (result ≡ at + length bytes.now)
-        × (out.new ≡ put out.old at bytes.now) }
-{
-    let mut i: usize = 0;
-    while i < bytes.len() {
-        out[at + i] = bytes[i];
-        i += 1;
-    }
-    at + i
+// Lent room, and where the next byte is written.
+#[derive(Drop)]
+pub struct Writer<'a> {
+    pub room: &'a mut [u8],
+    pub at: usize,
 }
 
-// Writes the bases that the bytes spell, in upper case.
-pub fn put_bases(bytes: &[u8], out: &mut [u8], at: usize) -> usize
-    requires { at + length bytes.now ≤ length out.old }
-    ensures { (result ≡ at + length bytes.now)
-        × (out.new ≡ put out.old at (bases_of bytes.now)) }
-{
-    let mut i: usize = 0;
-    while i < bytes.len() {
-        out[at + i] = letter(bytes[i]);
-        i += 1;
+impl<'a> Writer<'a> {
+    // Writes the bytes.
+    pub fn bytes(&mut self, bytes: &[u8])
+        requires { HasRoom self.old (length bytes.now) }
+        ensures { Wrote self.old bytes.now self.new }
+    {
+        let end = self.at + bytes.len();
+        self.room[self.at..end].copy_from_slice(bytes);
+        self.at = end;
     }
-    at + i
-}
 
-// Writes one byte.
-pub fn put_byte(byte: u8, out: &mut [u8], at: usize) -> usize
-    requires { at < length out.old }
-    ensures { (result ≡ at + 1)
-        × (out.new ≡ put out.old at (byte ∷ [])) }
-{
-    out[at] = byte;
-    at + 1
+    // Writes the bases that the bytes spell, in upper case.
+    pub fn bases(&mut self, bytes: &[u8])
+        requires { HasRoom self.old (length bytes.now) }
+        ensures { Wrote self.old (bases_of bytes.now) self.new }
+    {
+        for byte in bytes {
+            self.byte(letter(*byte));
+        }
+    }
+
+    // Writes one byte.
+    pub fn byte(&mut self, byte: u8)
+        requires { HasRoom self.old 1 }
+        ensures { Wrote self.old (byte ∷ []) self.new }
+    {
+        self.room[self.at] = byte;
+        self.at += 1;
+    }
 }

@@ -2,15 +2,15 @@
 // a base of the reference asks one of them: nobody else looks at a byte of it, but the view of allele 0.
 ghost use Rattle.std.specs.Prelude.{◌≡◌, ◌+◌, ◌-◌, ◌≤◌, ◌<◌, eqb, length, get_or};
 ghost use Rattle.bases.specs.Letter.{letter_of, bases_of};
-ghost use Rattle.bases.specs.Nearest.{upper, nearest_to};
+ghost use Rattle.bases.specs.Nearest.{differ?, upper, nearest_to};
 ghost use Rattle.bases.specs.Period.{any_period?};
-ghost use Rattle.bases.specs.Put.{put};
+ghost use Rattle.bases.specs.Wrote.{HasRoom, Wrote};
 ghost use Rattle.bases.specs.Reference.{is_reference?};
 ghost use Rattle.bases.specs.Same.{agree?};
 ghost use Rattle.bases.specs.Stretch.{stretch};
 
 use crate::letter::all_letters;
-use crate::put::put_bases;
+use crate::put::Writer;
 use crate::same::{is_same, parts_agree};
 
 // The most bases that a reference has.
@@ -20,13 +20,7 @@ pub const LONGEST_REFERENCE: usize = 65_535;
 pub fn is_reference(bytes: &[u8]) -> bool
     ensures { result ≡ is_reference? bytes.now }
 {
-    if bytes.len() < 1 {
-        return false;
-    }
-    if LONGEST_REFERENCE < bytes.len() {
-        return false;
-    }
-    all_letters(bytes)
+    !bytes.is_empty() && bytes.len() <= LONGEST_REFERENCE && all_letters(bytes)
 }
 
 // How many bases has it?
@@ -68,56 +62,51 @@ pub fn stretches_agree(reference: &[u8], a: usize, b: usize, n: usize) -> bool
         × (b + n ≤ length (bases_of reference.now)) }
     ensures { result ≡ agree? (stretch (bases_of reference.now) a n) (stretch (bases_of reference.now) b n) }
 {
-    if a == b {
-        return true;
-    }
-    parts_agree(reference, a, reference, b, n)
+    a == b || parts_agree(reference, a, reference, b, n)
 }
 
-// Writes its n bases from place a on into `out` from `at` on, in upper case. Nothing else of `out` changes.
-pub fn put_stretch(reference: &[u8], a: usize, n: usize, out: &mut [u8], at: usize) -> usize
+// Writes its n bases from place a on, in upper case.
+pub fn put_stretch(reference: &[u8], a: usize, n: usize, out: &mut Writer)
     requires { (a + n ≤ length (bases_of reference.now))
-        × (at + n ≤ length out.old) }
-    ensures { (result ≡ at + n)
-        × (out.new ≡ put out.old at (stretch (bases_of reference.now) a n)) }
+        × HasRoom out.old n }
+    ensures { Wrote out.old (stretch (bases_of reference.now) a n) out.new }
 {
-    put_bases(&reference[a..a + n], out, at)
+    out.bases(&reference[a..a + n]);
 }
 
-// The first place from `from` on whose base differs from the one q behind it, the stretch's length where there is none.
-fn first_difference(stretch: &[u8], q: usize, from: usize) -> usize
+// Do the bases at i and q behind it differ?
+fn differ(stretch: &[u8], q: usize, i: usize) -> bool
+    requires { i + q < length stretch.now }
+    ensures { result ≡ differ? q (bases_of stretch.now) i }
+{
+    !is_same(stretch[i], stretch[i + q])
+}
+
+// The first place from `from` on whose base differs from the one q behind it.
+fn first_difference(stretch: &[u8], q: usize, from: usize) -> Option<usize>
     requires { q ≤ length stretch.now }
     ensures { result ≡ upper q (bases_of stretch.now) from (length stretch.now - q - from) }
 {
-    let n = stretch.len() - q;
-    let mut i = from;
-    while i < n {
-        if !is_same(stretch[i], stretch[i + q]) {
-            return i;
-        }
-        i += 1;
-    }
-    stretch.len()
+    (from..stretch.len() - q).find(|i| differ(stretch, q, *i))
 }
 
-// Such a place nearest to `at`: the walk goes up and down from there in turn, and at last on up.
-fn nearest_difference(stretch: &[u8], q: usize, at: usize) -> usize
+// Such a place nearest to `at`: the walk goes up and down from there in turn, and at last on up. One `for` counts one index: `above` is
+// counted by hand, which is plainer than a second range whose end is asked for in each turn.
+fn nearest_difference(stretch: &[u8], q: usize, at: usize) -> Option<usize>
     requires { at + q < length stretch.now }
     ensures { result ≡ nearest_to at q (bases_of stretch.now) }
 {
     let n = stretch.len() - q;
     let mut above = at;
-    let mut below = at;
-    while 0 < below {
+    for below in (0..at).rev() {
         if above < n {
-            if !is_same(stretch[above], stretch[above + q]) {
-                return above;
+            if differ(stretch, q, above) {
+                return Some(above);
             }
             above += 1;
         }
-        below -= 1;
-        if !is_same(stretch[below], stretch[below + q]) {
-            return below;
+        if differ(stretch, q, below) {
+            return Some(below);
         }
     }
     first_difference(stretch, q, above)
@@ -129,16 +118,14 @@ fn any_period(stretch: &[u8], g: usize) -> bool
     ensures { result ≡ any_period? g (bases_of stretch.now) }
 {
     let mut at: usize = 0;
-    let mut q = g;
-    while 0 < q {
+    for q in (1..=g).rev() {
         if stretch.len() <= q {
             return true;
         }
-        at = nearest_difference(stretch, q, at);
-        if at == stretch.len() {
+        let Some(place) = nearest_difference(stretch, q, at) else {
             return true;
-        }
-        q -= 1;
+        };
+        at = place;
     }
     false
 }

@@ -10,37 +10,21 @@ use crate::letter::letter;
 pub fn is_same(x: u8, y: u8) -> bool
     ensures { result ≡ eqb (letter_of x) (letter_of y) }
 {
-    if x == y {
-        return true;
-    }
-    letter(x) == letter(y)
+    x == y || letter(x) == letter(y)
 }
 
 // Are the bases of the two equal, as far as both go? The first two that differ end the walk.
 pub fn agree(a: &[u8], b: &[u8]) -> bool
     ensures { result ≡ agree? (bases_of a.now) (bases_of b.now) }
 {
-    let mut i: usize = 0;
-    while i < a.len() {
-        if b.len() <= i {
-            return true;
-        }
-        if !is_same(a[i], b[i]) {
-            return false;
-        }
-        i += 1;
-    }
-    true
+    a.iter().zip(b).all(|(x, y)| is_same(*x, *y))
 }
 
 // Do the two spell the same bases?
 pub fn same_bases(a: &[u8], b: &[u8]) -> bool
     ensures { result ≡ same_bases? a.now b.now }
 {
-    if a.len() != b.len() {
-        return false;
-    }
-    agree(a, b)
+    a.len() == b.len() && agree(a, b)
 }
 
 // Are the n bases of one text from a on those of another from b on?

@@ -1,20 +1,23 @@
--- Laws of finding a byte.
+-- Laws of finding a byte, and of the bytes that a list begins with.
 --     until_stop, until_more, until_past    from i on: by the byte there, and at the end
 --     until_le                              it is found within the list, or is its length
 --     until_front                           where it is found, what stands behind does not matter
+--     begins_starts                         a list begins with another where the library finds that it starts with it
 -- Assumes nothing.
-use mathlib.Core.Bool.{Bool, true, false}
+use mathlib.Core.Bool.{Bool, true, false, ◌&&◌}
 use mathlib.Core.List.{List, [], ◌∷◌, ◌++◌}
 use mathlib.Core.Path.{◌≡◌, refl, ap, ◌∙◌}
 use Prim.Native.Nat.{ℕ, suc, ◌+◌, ◌≤◌, ◌<◌}
 use native.Mathlib.Numerals.{add-one}
 use native.Mathlib.Omega.{arith}
-use lib.Dec.{eqb}
-use lib.ListN.{length, get_or, drop, drop_of_length-le}
+use lib.Dec.{eqb, leb, leb-suc-zero, leb-suc-suc}
+use lib.ListN.{length, get_or, take, drop, drop_of_length-le}
+use lib.Pointwise.{pointwise}
 use lib.Seq.{drop-cons}
-use borrow.Author.Tests.{eq-eqb, ne_eqb}
+use borrow.Author.Tests.{eq-eqb, ne_eqb, le-leb}
 use Rattle.bases.specs.Pick.{pick}
-use Rattle.fields.specs.Bytes.{until}
+use Rattle.bases.specs.Same.{agree?}
+use Rattle.fields.specs.Bytes.{until, begins?}
 
 until_at : (x : ℕ) (l : List ℕ) (i : ℕ) → i < length l → until x (drop i l) ≡ pick (eqb (get_or l i 0) x) 0 (suc (until x (drop (i + 1) l)))
 unfolding until
@@ -48,3 +51,14 @@ until_front x (b ∷ bs) r h = go (eqb b x) (until_front x bs r) h
         → pick t 0 (suc (until x (bs ++ r))) ≡ pick t 0 (suc (until x bs))
     go true f h = refl
     go false f h = ap suc (f (omega arith))
+
+pub begins_starts : (p l : List ℕ) → pointwise eqb p (take (length p) l) ≡ begins? p l
+unfolding agree?
+begins_starts [] l = rw (le-leb 0 (length l) (omega arith))
+begins_starts (a ∷ p) [] = rw (leb-suc-zero (length p))
+begins_starts (a ∷ p) (b ∷ l) = rw (leb-suc-suc (length p) (length l)) (go (eqb a b) (leb (length p) (length l)) (begins_starts p l))
+  where
+    go : (s t : Bool) → pointwise eqb p (take (length p) l) ≡ (t && agree? p l) → (s && pointwise eqb p (take (length p) l)) ≡ (t && (s && agree? p l))
+    go true t e = e
+    go false true e = refl
+    go false false e = refl

@@ -12,20 +12,14 @@ pub const LONGEST_ALLELE: usize = 64;
 pub fn is_right_size(bytes: &[u8]) -> bool
     ensures { result ≡ right_size? bytes.now }
 {
-    if bytes.len() < 1 {
-        return false;
-    }
-    bytes.len() <= LONGEST_ALLELE
+    (1..=LONGEST_ALLELE).contains(&bytes.len())
 }
 
 // Are they 1 to 64 letters?
 pub fn is_allele(bytes: &[u8]) -> bool
     ensures { result ≡ is_allele? bytes.now }
 {
-    if !is_right_size(bytes) {
-        return false;
-    }
-    all_letters(bytes)
+    is_right_size(bytes) && all_letters(bytes)
 }
 
 // How many ALTs does the field have?

@@ -2,8 +2,6 @@
 ghost use Rattle.std.specs.Prelude.{◌≡◌, ◌+◌, drop};
 ghost use Rattle.fields.specs.Bytes.{until, begins?};
 
-use bases::bytes::agree;
-
 pub const LF: u8 = b'\n';
 
 pub const TAB: u8 = b'\t';
@@ -16,22 +14,17 @@ pub const COLON: u8 = b':';
 pub fn find(bytes: &[u8], from: usize, x: u8) -> usize
     ensures { result ≡ from + until x (drop from bytes.now) }
 {
-    let mut i = from;
-    while i < bytes.len() {
+    for i in from..bytes.len() {
         if bytes[i] == x {
             return i;
         }
-        i += 1;
     }
-    i
+    from.max(bytes.len())
 }
 
 // Do the bytes begin with `start`?
 pub fn begins(start: &[u8], bytes: &[u8]) -> bool
     ensures { result ≡ begins? start.now bytes.now }
 {
-    if bytes.len() < start.len() {
-        return false;
-    }
-    agree(start, bytes)
+    bytes.starts_with(start)
 }

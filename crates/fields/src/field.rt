@@ -14,10 +14,8 @@ pub fn skip_fields(line: &[u8], from: usize, count: usize) -> usize
     ensures { result ≡ skip count line.now from }
 {
     let mut at = from;
-    let mut left = count;
-    while 0 < left {
+    for _ in 0..count {
         at = find(line, at, TAB) + 1;
-        left -= 1;
     }
     at
 }
@@ -36,14 +34,12 @@ pub fn has_ten_fields(line: &[u8]) -> bool
     ensures { result ≡ ten_fields? line.now }
 {
     let mut at: usize = 0;
-    let mut left = FIELD_COUNT;
-    while 0 < left {
+    for _ in 0..FIELD_COUNT {
         let end = find(line, at, TAB);
         if end <= at {
             return false;
         }
         at = end + 1;
-        left -= 1;
     }
     at == line.len() + 1
 }

@@ -3,13 +3,15 @@ ghost use Rattle.std.specs.Prelude.{◌≡◌};
 ghost use Rattle.fields.specs.Header.{version_line?, header_line?, column_line?, header_wrong?};
 
 use crate::bytes::{TAB, begins, find};
-use bases::bytes::same_bytes;
+
+// The version line.
+const VERSION_LINE: &[u8] = b"##fileformat=VCFv4.2";
 
 // Is this the version line?
 fn is_version_line(line: &[u8]) -> bool
     ensures { result ≡ version_line? line.now }
 {
-    same_bytes(b"##fileformat=VCFv4.2", line)
+    line == VERSION_LINE
 }
 
 // Does the line begin with two hashes?
@@ -24,12 +26,11 @@ fn is_column_line(line: &[u8]) -> bool
     ensures { result ≡ column_line? line.now }
 {
     let names = b"#CHROM\tPOS\tID\tREF\tALT\tQUAL\tFILTER\tINFO\tFORMAT\t";
-    if begins(names, line) {
-        let end = find(line, names.len(), TAB);
-        (names.len() < end) & (end == line.len())
-    } else {
-        false
+    if !begins(names, line) {
+        return false;
     }
+    let end = find(line, names.len(), TAB);
+    names.len() < end && end == line.len()
 }
 
 // Is this line, the n-th from 1, none that may stand above the records? Line 1 is the version line.
@@ -39,8 +40,5 @@ pub fn header_wrong(n: usize, line: &[u8]) -> bool
     if n == 1 {
         return !is_version_line(line);
     }
-    if is_header_line(line) {
-        return false;
-    }
-    !is_column_line(line)
+    !is_header_line(line) && !is_column_line(line)
 }

@@ -1,7 +1,7 @@
 -- Laws of the numbers that are printed.
---     number_large                   a number from 100 on, by the digits before its last two, and these
+--     digits_last                    a number from 10 on, by the digits before its last, and this
 --     number_pos                     a POS is written as in a list
---     decimal_few, number_few, field_few, fields_few
+--     digits_few, number_few, field_few, fields_few
 --                                    the most bytes that they have
 -- Assumes nothing.
 use mathlib.Core.Bool.{Bool, true, false}
@@ -22,16 +22,9 @@ digits_more : (k n : ℕ) → n < 10 → digits_of (suc k) n ≡ (48 + n) ∷ []
 unfolding digits_of
 digits_more k n h = rw (lt-ltb n 10 h)
 
-digits_last : (k n : ℕ) → 10 ≤ n → digits_of (suc k) n ≡ digits_of k (n / 10) ++ ((48 + n % 10) ∷ [])
+pub digits_last : (k n : ℕ) → 10 ≤ n → digits_of (suc k) n ≡ digits_of k (n / 10) ++ ((48 + n % 10) ∷ [])
 unfolding digits_of
 digits_last k n h = rw (le-ltb n 10 h)
-
-pub number_large : (n : ℕ) → 100 ≤ n → number n ≡ decimal (n / 100) ++ ((48 + n / 10 % 10) ∷ []) ++ ((48 + n % 10) ∷ [])
-number_large n h =
-    let e : n / 10 / 10 ≡ n / 100 = omega arith in
-    digits_last 6 n (omega arith)
-    ∙ ap (λ (l : List ℕ). l ++ ((48 + n % 10) ∷ [])) (digits_last 5 (n / 10) (omega arith))
-    ∙ rw e
 
 -- A number that has at most k digits is written alike where more are allowed.
 abbrev Fits : ℕ → ℕ → Type 0
@@ -54,7 +47,7 @@ digits_fit (suc (suc k)) n h = go (ltb n 10) refl (digits_fit (suc k) (n / 10) h
 pub number_pos : (n : ℕ) → n ≤ largest_pos → number n ≡ decimal n
 number_pos n h = digits_fit 6 n (omega arith) ∙ digits_fit 5 n (omega arith)
 
-digits_few : (k n : ℕ) → length (digits_of k n) ≤ k
+pub digits_few : (k n : ℕ) → length (digits_of k n) ≤ k
 unfolding digits_of
 digits_few zero n = omega arith
 digits_few (suc k) n = go (ltb n 10) (digits_few k (n / 10))
@@ -62,9 +55,6 @@ digits_few (suc k) n = go (ltb n 10) (digits_few k (n / 10))
     go : (t : Bool) → length (digits_of k (n / 10)) ≤ k → length (pick t ((48 + n) ∷ []) (digits_of k (n / 10) ++ ((48 + n % 10) ∷ []))) ≤ suc k
     go true h = omega arith
     go false h = omega (arith, length-append (digits_of k (n / 10)) ((48 + n % 10) ∷ []))
-
-pub decimal_few : (n : ℕ) → length (decimal n) ≤ 5
-decimal_few n = digits_few 5 n
 
 pub number_few : (n : ℕ) → length (number n) ≤ most_digits
 number_few n = digits_few most_digits n

@@ -1,3 +1,2 @@
 pub mod Determines
 pub mod FieldLaws
-pub mod WroteLaws

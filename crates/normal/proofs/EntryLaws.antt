@@ -21,12 +21,12 @@ use Rattle.bases.specs.Pick.{pick}
 use Rattle.bases.specs.Stretch.{stretch}
 use Rattle.vcf.specs.declared.entry.Part.{Part}
 use Rattle.vcf.specs.declared.entry.Entry.{Entry}
-use Rattle.vcf.specs.Entry.{part, bytes_of}
+use Rattle.vcf.specs.Entry.{part, bytes_of, last_alt}
 use Rattle.normal.specs.declared.cut.Cuts.{Cuts}
 use Rattle.normal.specs.declared.entry.Spelled.{Spelled}
 use Rattle.normal.specs.Form.{Form}
 use Rattle.normal.specs.Cut.{run, all?, shortest, back_at, back_alike?, front_alike?, cut_of, trim_of}
-use Rattle.normal.specs.Spelled.{three, cuts_of, taken_in, spelled, start_of, last_alt, form_of, Within, Stands, normal_entry}
+use Rattle.normal.specs.Spelled.{three, cuts_of, taken_in, spelled, start_of, form_of, Within, Stands, normal_entry}
 use Rattle.normal.proofs.AlikeLaws.{three_shortest}
 use Rattle.normal.proofs.RunLaws.{run_le}
 

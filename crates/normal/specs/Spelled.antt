@@ -8,7 +8,7 @@ use Rattle.bases.specs.declared.place.Place.{Place}
 use Rattle.bases.specs.Place.{place_of}
 use Rattle.vcf.specs.declared.entry.Part.{Part}
 use Rattle.vcf.specs.declared.entry.Entry.{Entry}
-use Rattle.vcf.specs.Entry.{part, bytes_of}
+use Rattle.vcf.specs.Entry.{part, bytes_of, last_alt}
 use Rattle.normal.specs.declared.cut.Cuts.{Cuts}
 use Rattle.normal.specs.declared.entry.Spelled.{Spelled}
 use Rattle.normal.specs.declared.entry.NormalEntry.{NormalEntry}
@@ -40,12 +40,9 @@ spelled c p =
       own = part (p.at + c.front) (p.len - (c.back + c.front));
     }
 
--- The place where an entry starts; its last ALT.
+-- The place where an entry starts.
 abbrev pub start_of : Entry → Place
 start_of e = place_of e.pos
-
-abbrev pub last_alt : Entry → Part
-last_alt e = pick (eqb e.alts 2) e.second e.first
 
 -- What an entry spells: REF off the reference, the ALTs off the text.
 abbrev pub form_of : List ℕ → List ℕ → Entry → Form

@@ -1,6 +1,6 @@
 // How much of an entry's alleles all have in common, and so is cut off: the loops of Tan and others, with nothing copied. REF, which is so
 // many bases of the reference, and two ALTs; where there is one ALT it stands for both, which changes no test.
-ghost use Rattle.std.specs.Prelude.{◌≡◌, ◌+◌, ◌≤◌, ◌<◌, min, eqb, length};
+ghost use Rattle.std.specs.Prelude.{◌≡◌, ◌+◌, ◌≤◌, ◌<◌, eqb, length};
 ghost use Rattle.bases.specs.Letter.{bases_of};
 ghost use Rattle.bases.specs.Stretch.{stretch};
 ghost use Rattle.normal.specs.Cut.{run, back_at, back_alike?, front_alike?};
@@ -45,17 +45,12 @@ fn cut_back(reference: &[u8], start: Place, span: usize, b: &[u8], c: &[u8], mos
         (three start (stretch (bases_of reference.now) start.0 span) (bases_of b.now)
         (bases_of c.now))) most }
 {
-    let mut q: usize = 0;
-    while q < most {
-        if !back_alike(reference, start, span, b, q) {
+    for q in 0..most {
+        if !back_alike(reference, start, span, b, q) || !back_alike(reference, start, span, c, q) {
             return q;
         }
-        if !back_alike(reference, start, span, c, q) {
-            return q;
-        }
-        q += 1;
     }
-    q
+    most
 }
 
 // How many first bases all alleles have in common, at most `most`.
@@ -68,25 +63,13 @@ fn cut_front(reference: &[u8], start: Place, span: usize, b: &[u8], c: &[u8], mo
         (three start (stretch (bases_of reference.now) start.0 span) (bases_of b.now)
         (bases_of c.now))) most }
 {
-    let mut t: usize = 0;
-    while t < most {
+    for t in 0..most {
         let place = start.0 + t;
-        if !base_is(reference, place, b[t]) {
+        if !base_is(reference, place, b[t]) || !base_is(reference, place, c[t]) {
             return t;
         }
-        if !base_is(reference, place, c[t]) {
-            return t;
-        }
-        t += 1;
     }
-    t
-}
-
-// The shorter of two lengths.
-fn shorter(a: usize, b: usize) -> usize
-    ensures { result ≡ min a b }
-{
-    if a < b { a } else { b }
+    most
 }
 
 // What is cut off REF, which is so many bases of the reference from `start` on, and the ALTs b and c, none of them empty.
@@ -98,7 +81,7 @@ pub fn cuts_of(reference: &[u8], start: Place, span: usize, b: &[u8], c: &[u8]) 
     ensures { result ≡ cuts_of (bases_of reference.now)
         (three start (stretch (bases_of reference.now) start.0 span) (bases_of b.now) (bases_of c.now)) }
 {
-    let shortest = shorter(b.len(), shorter(c.len(), span));
+    let shortest = b.len().min(c.len().min(span));
     let back = cut_back(reference, start, span, b, c, start.0 + shortest - 1);
     let front = if back < shortest {
         cut_front(reference, start, span, b, c, shortest - back - 1)

@@ -1,8 +1,7 @@
 // The normal form of one entry: its new start, and its alleles as runs of the reference and parts of the list's text.
 ghost use Rattle.std.specs.Prelude.{◌≡◌, ◌+◌, ◌-◌, ◌≤◌, ◌<◌, ◌^◌, length};
 ghost use Rattle.bases.specs.Letter.{bases_of};
-ghost use Rattle.vcf.specs.Entry.{bytes_of};
-ghost use Rattle.normal.specs.Spelled.{cuts_of, taken_in, spelled, start_of, last_alt, form_of, Within, Stands, normal_entry};
+ghost use Rattle.normal.specs.Spelled.{cuts_of, taken_in, spelled, start_of, form_of, Stands, normal_entry};
 
 use crate::cut::{Cuts, cuts_of};
 use bases::place::{Place, place_of};
@@ -29,11 +28,7 @@ fn taken_in(cuts: Cuts) -> usize
     requires { 1 ≤ cuts.shortest }
     ensures { result ≡ taken_in cuts }
 {
-    if cuts.back < cuts.shortest {
-        0
-    } else {
-        cuts.back - cuts.shortest + 1
-    }
+    cuts.back.saturating_sub(cuts.shortest - 1)
 }
 
 // What is left of an ALT.
@@ -62,37 +57,15 @@ fn spelled_part(cuts: Cuts, part: Part) -> Spelled
     }
 }
 
-// A part of the text.
-fn bytes_of(text: &[u8], part: Part) -> &[u8]
-    requires { Within text.now part }
-    ensures { result.now ≡ bytes_of text.now part }
-{
-    let at = part.at;
-    let end = at + part.len;
-    &text[at..end]
-}
-
-// The last ALT of an entry.
-fn last_alt(entry: Entry) -> Part
-    ensures { result ≡ last_alt entry }
-{
-    if entry.alts == 2 {
-        entry.second
-    } else {
-        entry.first
-    }
-}
-
 // What is cut off the alleles of an entry that starts at `start`.
 fn entry_cuts(reference: &[u8], text: &[u8], entry: Entry, start: Place) -> Cuts
     requires { Stands (bases_of reference.now) text.now entry
         × (start ≡ start_of entry) }
     ensures { result ≡ cuts_of (bases_of reference.now) (form_of (bases_of reference.now) text.now entry) }
 {
-    let ref_part = entry.reference;
-    let first = bytes_of(text, entry.first);
-    let last = bytes_of(text, last_alt(entry));
-    cuts_of(reference, start, ref_part.len, first, last)
+    let first = entry.first.bytes(text);
+    let last = entry.last_alt().bytes(text);
+    cuts_of(reference, start, entry.reference.len, first, last)
 }
 
 // The normal form of an entry that stands on the reference and in the text.
@@ -100,15 +73,13 @@ pub fn normal_entry(reference: &[u8], text: &[u8], entry: Entry) -> NormalEntry
     requires { Stands (bases_of reference.now) text.now entry }
     ensures { result ≡ normal_entry (bases_of reference.now) text.now entry }
 {
-    let pos = entry.pos;
-    let start = place_of(pos);
+    let start = place_of(entry.pos);
     let cuts = entry_cuts(reference, text, entry, start);
     let new_start = start.0 + cuts.front - taken_in(cuts);
-    let ref_part = entry.reference;
     NormalEntry {
         start: Place(new_start),
-        span: start.0 + ref_part.len - cuts.back - new_start,
+        span: start.0 + entry.reference.len - cuts.back - new_start,
         first: spelled_part(cuts, entry.first),
-        second: spelled_part(cuts, last_alt(entry)),
+        second: spelled_part(cuts, entry.last_alt()),
     }
 }

@@ -1,6 +1,6 @@
 -- Laws of ALT on a record's line.
 --     RightAlts, right_iff     what ALT is; it is that exactly where no row on it holds
---     alt_ends                 ALT ends within the line
+--     AltRead, alt_read        what is read off a line for it
 --     alts_first, alts_one, alts_second, alts_equal, alts_none
 --                              what is told: a row of the first allele; none, with one allele; a row of the second; row 23; none
 -- Assumes nothing.
@@ -11,7 +11,7 @@ use mathlib.Core.Path.{◌≡◌, refl, sym, ap, ◌∙◌}
 use Prim.Native.Nat.{ℕ, ◌+◌, ◌-◌, ◌≤◌, ◌<◌}
 use native.Mathlib.Omega.{arith}
 use borrow.Author.Tests.{lt-ltb, le-ltb, not-false}
-use lib.Dec.{T, ltb, lit<}
+use lib.Dec.{T, ltb}
 use lib.ListN.{length, take, drop}
 use Rattle.bases.specs.Letter.{all_letters?}
 use Rattle.bases.specs.Same.{same_bases?}
@@ -19,11 +19,11 @@ use Rattle.bases.proofs.FirstLaws.{NoneHolds, none_join}
 use Rattle.bases.proofs.PartLaws.{tail_part}
 use Rattle.bases.proofs.TestLaws.{both, of_true, is_true}
 use Rattle.fields.specs.Allele.{right_size?, is_allele?, first_alt, two_alts?, second_alt}
-use Rattle.fields.specs.Bytes.{TAB, COMMA, until}
-use Rattle.fields.specs.declared.field.Fields.{Fields}
-use Rattle.fields.specs.Field.{field_at, field_from, field, ten_fields?, fields_of}
-use Rattle.fields.proofs.FieldLaws.{until_within, field_length, field_within}
+use Rattle.fields.specs.Bytes.{COMMA, until}
+use Rattle.fields.specs.Field.{field_at, field}
+use Rattle.fields.proofs.FieldLaws.{read}
 use Rattle.records.specs.Alt.{first_at, second_at, allele_rows, alt_rows}
+use Rattle.records.specs.declared.line.Record.{Record}
 use Rattle.records.specs.declared.row.LineFault.{LineFault}
 use Rattle.records.specs.Row.{Row, line_fault, no_fault, row_at, first_row}
 use Rattle.records.proofs.RowLaws.{numbered, none_holds, first_row_holds, first_row_past, first_row_none, first_row_keeps}
@@ -98,33 +98,31 @@ module _ (l : List ℕ) where
             ),
           )
 
--- REF and ALT as they are read off the line, and where the first comma of ALT was found.
-module _ (l : List ℕ) (fs : Fields) (ref f : List ℕ) (e : ℕ) (read : fs ≡ fields_of l) (ref_read : ref ≡ field_from l fs.reference)
-    (alt-read : f ≡ field_from l fs.alt) (found : e ≡ until COMMA f) where
+-- The place of ALT, REF and ALT as they are read off the line, and where the first comma of ALT was found.
+pub record AltRead (l : List ℕ) (a : ℕ) (ref f : List ℕ) (e : ℕ) : Type 0 where
+  pub place : a ≡ field_at 4 l
+  pub ref_is : ref ≡ field 3 l
+  pub alt_is : f ≡ field 4 l
+  pub found : e ≡ until COMMA f
+
+pub alt_read : (r : Record) {ref f : List ℕ} {e : ℕ} → ref ≡ field 3 r.line.now → f ≡ field 4 r.line.now → e ≡ 0 + until COMMA (drop 0 f) → AltRead r.line.now r.fields.alt ref f e
+alt_read r er ef ee = record { place = (read r.line.now r.fields r.read).alt; ref_is = er; alt_is = ef; found = omega (arith, ee) }
+
+module _ {l : List ℕ} {a : ℕ} {ref f : List ℕ} {e : ℕ} (r : AltRead l a ref f e) where
   -- The bytes behind the one at e, as a part of a slice.
   abbrev behind : List ℕ
   behind = take (length f - (e + 1)) (drop (e + 1) f)
 
-  alt_is : f ≡ field 4 l
-  alt_is = alt-read ∙ ap (λ (g : Fields). field_from l g.alt) read
-
-  -- the field ends within the line
-  pub alt_ends : T (ten_fields? l) → fs.alt + length f ≤ length l
-  alt_ends ten =
-      let at : fs.alt ≡ field_at 4 l = ap (λ (g : Fields). g.alt) read in
-      let long : length f ≡ until TAB (drop (field_at 4 l) l) = ap length alt_is ∙ field_length l (field_at 4 l) in
-      omega (arith, field_within l 4 ten (lit< tt), until_within TAB l (field_at 4 l))
-
-  first_same : first_row (allele_rows true fs.alt ref (take e f)) ≡ first_row (first_rows l)
+  first_same : first_row (allele_rows true a ref (take e f)) ≡ first_row (first_rows l)
   first_same = cc
 
-  second_same : first_row (allele_rows true (fs.alt + e + 1) ref behind) ≡ first_row (allele_rows true (second_at l) (field 3 l) (second_alt (field 4 l)))
+  second_same : first_row (allele_rows true (a + e + 1) ref behind) ≡ first_row (allele_rows true (second_at l) (field 3 l) (second_alt (field 4 l)))
   second_same = let t = tail_part f (e + 1) in cc
 
   equal_same : same_bases? behind (take e f) ≡ same_bases? (second_alt (field 4 l)) (first_alt (field 4 l))
   equal_same = let t = tail_part f (e + 1) in cc
 
-  second_place : fs.alt + e + 1 ≡ second_at l
+  second_place : a + e + 1 ≡ second_at l
   second_place = cc
 
   one : length f ≤ e → two_alts? (field 4 l) ≡ false
@@ -133,7 +131,7 @@ module _ (l : List ℕ) (fs : Fields) (ref f : List ℕ) (e : ℕ) (read : fs �
   two : e < length f → two_alts? (field 4 l) ≡ true
   two h = let z : ltb e (length f) ≡ true = lt-ltb e (length f) h in cc
 
-  module _ (x : LineFault) (told : x ≡ first_row (allele_rows true fs.alt ref (take e f))) where
+  module _ (x : LineFault) (told : x ≡ first_row (allele_rows true a ref (take e f))) where
     pub alts_first : x.number ≢ 0 → x ≡ first_row (alt_rows l)
     alts_first n =
         let k = told ∙ first_same in
@@ -148,7 +146,7 @@ module _ (l : List ℕ) (fs : Fields) (ref f : List ℕ) (e : ℕ) (read : fs �
       pub alts_one : length f ≤ e → no_fault ≡ first_row (alt_rows l)
       alts_one h = sym (past ∙ first_row_none (second_rows l ++ equal_row l) (rw (one h) (refl, (refl, (refl, (refl, tt))))))
 
-      module _ (h : e < length f) (y : LineFault) (told' : y ≡ first_row (allele_rows true (fs.alt + e + 1) ref behind)) where
+      module _ (h : e < length f) (y : LineFault) (told' : y ≡ first_row (allele_rows true (a + e + 1) ref behind)) where
         second_told : y ≡ first_row (second_rows l)
         second_told = rw (two h) (told' ∙ second_same)
 
@@ -162,7 +160,7 @@ module _ (l : List ℕ) (fs : Fields) (ref f : List ℕ) (e : ℕ) (read : fs �
               ∙ first_row_past (second_rows l) (equal_row l)
               (none_holds (second_rows l) (numbered (second_rows l) tt) (ap (λ (u : LineFault). u.number) (sym second_told) ∙ zero'))
 
-          pub alts_equal : same_bases? behind (take e f) ≡ true → line_fault 23 (fs.alt + e + 1) ≡ first_row (alt_rows l)
+          pub alts_equal : same_bases? behind (take e f) ≡ true → line_fault 23 (a + e + 1) ≡ first_row (alt_rows l)
           alts_equal s =
               ap (line_fault 23) second_place
               ∙ sym (last ∙ first_row_holds _ [] (rw (two h) (sym equal_same ∙ s)))

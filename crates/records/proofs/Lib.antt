@@ -3,4 +3,5 @@ pub mod Determines
 pub mod PlaceLaws
 pub mod RecordLaws
 pub mod RecordLineLaws
+pub mod ResultLaws
 pub mod RowLaws

@@ -3,10 +3,10 @@
 --     Copies, copies_right           what a genotype that is not wrong is
 --     genotype_right                 the same of a line on which row 11 does not hold
 --     no_alt                         its copies are 0 where its digits are
---     off_past, off_within           row 13, by whether REF runs past the reference
+--     off_within                     row 13, where REF does not run past the reference
 --     record_ten                     a line on which no row holds has ten fields
---     sample_read, copies_read, reference_read, format_read, alts_read, genotype_read
---                                    the genotype, REF, FORMAT and the number of ALTs that are read off it, and row 11 by them
+--     copies_read                    the same of a genotype that is read off it
+--     reference_within, alt_within   REF and ALT end within the line
 -- Assumes nothing.
 use mathlib.Core.Bool.{Bool, true, false, not, ◌&&◌}
 use mathlib.Core.List.{List}
@@ -14,8 +14,8 @@ use mathlib.Core.Path.{◌≡◌, refl, sym, ap, subst, ◌∙◌}
 use Prim.Native.Nat.{ℕ, ◌+◌, ◌-◌, ◌≤◌, ◌<◌}
 use native.Mathlib.Decide.{ℕ_discrete}
 use native.Mathlib.Omega.{arith}
-use borrow.Author.Tests.{lt-leb, le-leb, eq-eqb, ne_eqb, not-false}
-use lib.Dec.{T, eqb, leb, eqb→eq, leb→le}
+use borrow.Author.Tests.{le-leb, eq-eqb, ne_eqb, not-false}
+use lib.Dec.{T, eqb, leb, eqb→eq, leb→le, lit<}
 use lib.ListN.{length, get_or}
 use Rattle.bases.specs.declared.place.Pos.{Pos}
 use Rattle.bases.specs.Place.{place_of}
@@ -26,10 +26,12 @@ use Rattle.bases.proofs.LetterLaws.{bases_length}
 use Rattle.bases.proofs.StretchLaws.{stretch_same}
 use Rattle.bases.proofs.TestLaws.{both, of_true}
 use Rattle.fields.specs.Allele.{alt_count}
-use Rattle.fields.specs.declared.field.Fields.{Fields}
-use Rattle.fields.specs.Field.{field_from, field, ten_fields?, fields_of}
-use Rattle.fields.specs.Genotype.{format_wrong?, genotype, separator?, digit_to?, copies_wrong?, copy0, copy1}
+use Rattle.fields.specs.Bytes.{TAB}
+use Rattle.fields.specs.Field.{field_at, field, ten_fields?}
+use Rattle.fields.proofs.FieldLaws.{until_within, field_length, field_within, read}
+use Rattle.fields.specs.Genotype.{format_wrong?, separator?, digit_to?, copies_wrong?, copy0, copy1}
 use Rattle.fields.specs.Pos.{digit?}
+use Rattle.records.specs.declared.line.Record.{Record}
 use Rattle.records.specs.Record.{genotype_on, genotype_wrong?, no_alt?, off_reference?, record_rows}
 use Rattle.records.specs.Row.{first_row}
 use Rattle.records.proofs.RowLaws.{none_holds, record_rows_numbered}
@@ -81,9 +83,6 @@ zero_digit b h = go (ℕ_discrete b 48)
 pub no_alt : (g : List ℕ) → Copies g → eqb (get_or g 0 0) 48 && eqb (get_or g 2 0) 48 ≡ eqb (copy0 g) 0 && eqb (copy1 g) 0
 no_alt g w = rw (zero_digit (get_or g 0 0) w.first, zero_digit (get_or g 2 0) w.last)
 
-pub off_past : (r : List ℕ) (pos : Pos) (a : List ℕ) → length r < (place_of pos).0 + length a → off_reference? r pos a ≡ true
-off_past r pos a h = rw (lt-leb _ _ h)
-
 pub off_within : (r : List ℕ) (pos : Pos) (a : List ℕ) → (place_of pos).0 + length a ≤ length r
     → not (agree? (stretch r (place_of pos).0 (length a)) (stretch (bases_of a) 0 (length a))) ≡ off_reference? r pos a
 off_within r pos a h = rw (le-leb _ _ h) (ap not (stretch_same r (bases_of a) (place_of pos).0 (length a) h (bases_length a)))
@@ -94,27 +93,19 @@ record_ten r name records last l e =
     let none = none_holds (record_rows r name records last l) (record_rows_numbered r name records last l) e in
     of_true {t = ten_fields? l} (not-false (ten_fields? l) none.1.1.1.0)
 
--- the genotype, read where the sample's field begins
-pub sample_read : (l : List ℕ) {f : Fields} {sample g : List ℕ} → f ≡ fields_of l → sample ≡ field_from l f.sample → g ≡ genotype sample → g ≡ genotype_on l
-sample_read l e s k = cc
-
--- REF, FORMAT and the number of ALTs, read where their fields begin
-pub reference_read : (l : List ℕ) {f : Fields} {bases : List ℕ} → f ≡ fields_of l → bases ≡ field_from l f.reference → bases ≡ field 3 l
-reference_read l e s = s ∙ ap (λ (g : Fields). field_from l g.reference) e
-
-pub format_read : (l : List ℕ) {f : Fields} {format : List ℕ} {b : Bool} → f ≡ fields_of l → format ≡ field_from l f.format → b ≡ format_wrong? format → b ≡ format_wrong? (field 8 l)
-format_read l e s k = cc
-
-pub alts_read : (l : List ℕ) {f : Fields} {alt : List ℕ} {n : ℕ} → f ≡ fields_of l → alt ≡ field_from l f.alt → n ≡ alt_count alt → n ≡ alt_count (field 4 l)
-alts_read l e s k = cc
-
--- row 11, by what is read
-pub genotype_read : (l : List ℕ) {n : ℕ} {g : List ℕ} {b : Bool} → format_wrong? (field 8 l) ≡ false → n ≡ alt_count (field 4 l) → g ≡ genotype_on l → b ≡ copies_wrong? n g → b ≡ genotype_wrong? l
-genotype_read l right e k h = let r = format_right l right in cc
-
 pub copies_read : (l : List ℕ) → genotype_wrong? l ≡ false → {g : List ℕ} → g ≡ genotype_on l → Copies g
 copies_read l right e = subst Copies (sym e) (genotype_right l right)
 
 -- row 12, by the genotype that is read
 pub no_alt_read : (l : List ℕ) {g : List ℕ} → g ≡ genotype_on l → Copies g → eqb (get_or g 0 0) 48 && eqb (get_or g 2 0) 48 ≡ no_alt? l
 no_alt_read l {g} e w = no_alt g w ∙ ap (λ (x : List ℕ). eqb (copy0 x) 0 && eqb (copy1 x) 0) e
+
+-- a field that is read ends within the line
+field_ends : (l : List ℕ) (k a : ℕ) → T (ten_fields? l) → k < 10 → a ≡ field_at k l → a + length (field k l) ≤ length l
+field_ends l k a ten h e = omega (arith, field_length l (field_at k l), field_within l k ten h, until_within TAB l (field_at k l))
+
+pub reference_within : (r : Record) → r.fields.reference + length (field 3 r.line.now) ≤ length r.line.now
+reference_within r = field_ends r.line.now 3 r.fields.reference (of_true r.ten) (lit< tt) (read r.line.now r.fields r.read).reference
+
+pub alt_within : (r : Record) → r.fields.alt + length (field 4 r.line.now) ≤ length r.line.now
+alt_within r = field_ends r.line.now 4 r.fields.alt (of_true r.ten) (lit< tt) (read r.line.now r.fields r.read).alt

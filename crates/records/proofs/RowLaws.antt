@@ -6,12 +6,14 @@
 --     first_row_none, none_holds       two zeros are told where no row holds, and number 0 only there
 --     first_row_keeps                  where one of some rows holds, those behind them are not reached
 --     first_not_zero                   the first that holds is not numbered 0
+--     told_err, told_ok, told_exit     what a function returns: a fault that is numbered, or that there is none
 --     record_rows_numbered             no row that is tried on a record's line is numbered 0
 -- Assumes nothing.
 use mathlib.Core.Bool.{Bool, true, false, not}
 use mathlib.Core.List.{List, [], ◌∷◌, ◌++◌}
 use mathlib.Core.Logic.{◌≢◌}
 use mathlib.Core.Path.{◌≡◌, refl, ap}
+use Rattle.std.specs.Prelude.{Result, Ok, Err, IsErrAnd}
 use Prim.Native.Nat.{ℕ}
 use borrow.Author.Tests.{eq-eqb}
 use lib.Dec.{T, eqb}
@@ -19,9 +21,10 @@ use Rattle.bases.specs.declared.place.Pos.{Pos}
 use Rattle.bases.proofs.FirstLaws as first
 use Rattle.bases.proofs.FirstLaws.{NoneHolds, First}
 use Rattle.bases.proofs.TestLaws.{both, of_false}
+use Rattle.records.proofs.ResultLaws.{result_err, result_ok, result_exit}
 use Rattle.records.specs.declared.row.LineFault.{LineFault}
 use Rattle.records.specs.Record.{record_rows}
-use Rattle.records.specs.Row.{Row, no_fault, first_row}
+use Rattle.records.specs.Row.{Row, no_fault, first_row, told}
 
 abbrev number_of : LineFault → ℕ
 number_of f = f.number
@@ -68,3 +71,12 @@ numbered (r ∷ rs) t =
 
 pub record_rows_numbered : (reference name : List ℕ) (records : ℕ) (last : Pos) (l : List ℕ) → Numbered (record_rows reference name records last l)
 record_rows_numbered reference name records last l = numbered (record_rows reference name records last l) tt
+
+pub told_err : (e f : LineFault) → Err e ≡ told f → (e ≡ f) × (e.number ≢ 0)
+told_err = result_err number_of
+
+pub told_ok : (x : Unit {0}) (f : LineFault) → Ok x ≡ told f → f.number ≡ 0
+told_ok = result_ok number_of
+
+pub told_exit : (r : Result (Unit {0}) LineFault) (e f : LineFault) → IsErrAnd r (λ y. y ≡ e) → e ≡ f → e.number ≢ 0 → r ≡ told f
+told_exit = result_exit number_of

@@ -2,5 +2,6 @@
 #![tactic(auto)]
 
 pub mod alt;
+pub mod line;
 pub mod record;
 pub mod row;

@@ -1,5 +1,6 @@
 -- Laws of the lines above the records, and of the line that an entry stands on.
 --     above_few         no more lines stand above the records than the text has bytes
+--     above_bytes       they take no more bytes than the text has with an LF at its end
 --     above_lines       behind them the lines are those of the records
 --     line_there        the line some lines on
 --     entry_line_lem        entry i stands on the i-th line behind those above the records
@@ -10,13 +11,15 @@ use mathlib.Core.Path.{◌≡◌, refl, sym, ap, ◌∙◌}
 use Prim.Native.Nat.{ℕ, zero, suc, ◌+◌, ◌-◌, ◌≤◌, ◌<◌}
 use native.Mathlib.Decide.{dec_lt}
 use native.Mathlib.Omega.{arith}
+use lib.Dec.{eqb}
 use lib.ListN.{length, get_or, drop}
 use lib.Seq.{get_or-drop}
 use Rattle.bases.specs.Pick.{pick}
 use Rattle.vcf.specs.declared.entry.Entry.{Entry}
 use Rattle.vcf.specs.Entry.{line_at, next_line, entry_of, header_bytes, records_at, header_lines, lines_above, entries_of, skip_lines, record_at}
 use Rattle.fields.specs.Header.{header_line?}
-use Rattle.vcf.specs.List.{lines_of}
+use Rattle.fields.specs.Bytes.{LF}
+use Rattle.vcf.specs.List.{onto, lines_of}
 use Rattle.vcf.proofs.EntryLaws.{header_stop, header_more, header_past, above_stop, above_more, above_past, skip_lines_zero, skip_lines_past, skip_lines_more, entry_number_lem, entries_iff}
 use Rattle.vcf.proofs.JudgeLaws.{lines_few}
 use Rattle.vcf.proofs.ListLaws.{lines_at}
@@ -32,6 +35,33 @@ above_le (l ∷ ls) = go (header_line? l) (above_le ls)
 
 pub above_few : (t : List ℕ) → lines_above t ≤ length t
 above_few t = omega (arith, above_le (lines_of t), lines_few t)
+
+-- How many bytes lines take with an LF behind each.
+abbrev bytes_with_ends : List (List ℕ) → ℕ
+bytes_with_ends [] = 0
+bytes_with_ends (l ∷ ls) = length l + 1 + bytes_with_ends ls
+
+lines_bytes : (t : List ℕ) → bytes_with_ends (lines_of t) ≤ length t + 1
+unfolding lines_of
+lines_bytes [] = omega arith
+lines_bytes (b ∷ bs) = go (eqb b LF) (lines_of bs) (lines_bytes bs)
+  where
+    go : (t : Bool) (ls : List (List ℕ)) → bytes_with_ends ls ≤ length bs + 1 → bytes_with_ends (pick t ([] ∷ ls) (onto b ls)) ≤ suc (length bs) + 1
+    go true ls h = omega arith
+    go false [] h = omega arith
+    go false (l ∷ ls) h = omega arith
+
+header_bytes_le : (ls : List (List ℕ)) → header_bytes ls ≤ bytes_with_ends ls
+unfolding header_bytes
+header_bytes_le [] = omega arith
+header_bytes_le (l ∷ ls) = go (header_line? l) (header_bytes_le ls)
+  where
+    go : (t : Bool) → header_bytes ls ≤ bytes_with_ends ls → length l + 1 + pick t (header_bytes ls) 0 ≤ length l + 1 + bytes_with_ends ls
+    go true h = omega arith
+    go false h = omega arith
+
+pub above_bytes : (t : List ℕ) → records_at t ≤ length t + 1
+above_bytes t = omega (arith, header_bytes_le (lines_of t), lines_bytes t)
 
 module _ (t : List ℕ) where
   above_end : (a : ℕ) → length t ≤ a → lines_of (drop (a + header_bytes (lines_of (drop a t))) t) ≡ drop (header_lines (lines_of (drop a t))) (lines_of (drop a t))

@@ -1,8 +1,21 @@
--- Each contract determines its result: any two results that it allows for the same arguments are equal.
--- No function here is lent anything that it can write.
+-- Each contract determines its result: any two results that it allows for the same arguments are equal. Of a walk over lines, the lines
+-- that are left are, and of a line or a part that it gives, the bytes. No function here is lent anything that it can write.
 -- Assumes nothing.
-use mathlib.Core.Path.{sym, ◌∙◌}
-use Rattle.bases.proofs.Determines.{OneResult}
+use mathlib.Core.List.{List}
+use mathlib.Core.Path.{◌≡◌, refl, sym, ap, ◌∙◌}
+use Prim.Native.Nat.{ℕ}
+use native.Mathlib.Omega.{arith}
+use denote.Ref.{Bor}
+use lib.ListN.{length, get_or, drop}
+use Rattle.std.proofs.Common.{Option, None, Some}
+use Rattle.std.specs.Iterator.{YieldsFirstRef}
+use Rattle.vcf.specs.declared.lines.Lines.{Lines}
+use Rattle.vcf.specs.Lines.{lines_left}
+use Rattle.bases.proofs.Determines.{OneResult, OneSeen}
+use Rattle.vcf.proofs.entry.Part.bytes.Kinds as part-bytes-kinds
+use Rattle.vcf.proofs.entry.Part.bytes.Reads as part-bytes
+use Rattle.vcf.proofs.entry.Entry.last_alt.Kinds as last-alt-kinds
+use Rattle.vcf.proofs.entry.Entry.last_alt.Reads as last_alt
 use Rattle.vcf.proofs.entry.entry_at.Kinds as entry-at-kinds
 use Rattle.vcf.proofs.entry.entry_at.Reads as entry_at
 use Rattle.vcf.proofs.entry.pos_at.Kinds as pos-at-kinds
@@ -15,8 +28,16 @@ use Rattle.vcf.proofs.entry.record_at.Kinds as record-at-kinds
 use Rattle.vcf.proofs.entry.record_at.Reads as record_at_lem
 use Rattle.vcf.proofs.entry.records_at.Kinds as records-at-kinds
 use Rattle.vcf.proofs.entry.records_at.Reads as records-at
+use Rattle.vcf.proofs.lines.lines_of.Kinds as lines-of-kinds
+use Rattle.vcf.proofs.lines.lines_of.Reads as lines-of
 use Rattle.vcf.proofs.list.judge.Kinds as judge-kinds
 use Rattle.vcf.proofs.list.judge.Reads as judge
+
+pub part_bytes_determines : OneSeen 1 part-bytes-kinds.ps part-bytes-kinds.r part-bytes.Post (List ℕ) (λ κs z. z.now)
+part_bytes_determines κs a z z' e e' p q = p ∙ sym q
+
+pub last_alt_determines : OneResult 0 last-alt-kinds.ps last-alt-kinds.r last_alt.Post
+last_alt_determines κs a z z' e e' p q = p ∙ sym q
 
 pub next_line_determines : OneResult 1 next-line-kinds.ps next-line-kinds.r next-line.Post
 next_line_determines κs a z z' e e' p q = p ∙ sym q
@@ -38,3 +59,21 @@ judge_determines κs a z z' e e' p q = p ∙ sym q
 
 pub pos_at_determines : OneResult 1 pos-at-kinds.ps pos-at-kinds.r pos-at.Post
 pos_at_determines κs a z z' e e' p q = p ∙ sym q
+
+pub lines_of_determines : OneSeen 1 lines-of-kinds.ps lines-of-kinds.r lines-of.Post (List (List ℕ)) (λ κs z. lines_left z)
+lines_of_determines κs a z z' e e' p q = p ∙ sym q
+
+-- The bytes of the line that a walk gave, if it gave one.
+abbrev pub bytes_given : Option (Bor (List ℕ)) → Option (List ℕ)
+bytes_given None = None
+bytes_given (Some x) = Some x.now
+
+-- Any two lines that the contract of `next` allows for a walk have the same bytes, and leave the same lines.
+pub next_lines_determines : (w : Lines) (o o' : Option (Bor (List ℕ))) (v v' : Lines)
+    → YieldsFirstRef lines_left w o v → YieldsFirstRef lines_left w o' v'
+    → (bytes_given o ≡ bytes_given o') × (lines_left v ≡ lines_left v')
+next_lines_determines w None None v v' e f = (refl, e.1 ∙ sym f.1)
+next_lines_determines w None (Some y) v v' e f = absurd (omega (arith, ap length (sym e.0 ∙ f)))
+next_lines_determines w (Some x) None v v' e f = absurd (omega (arith, ap length (sym f.0 ∙ e)))
+next_lines_determines w (Some x) (Some y) v v' e f =
+    let m = sym e ∙ f in (ap (λ (l : List (List ℕ)). Some (get_or l 0 x.now)) m, ap (drop 1) m)

@@ -19,7 +19,6 @@ use mathlib.Core.Logic.{◌↔◌}
 use mathlib.Core.Path.{◌≡◌, refl, ap, ◌∙◌}
 use Prim.Native.Nat.{ℕ, zero, suc, ◌+◌, ◌-◌, ◌≤◌, ◌<◌}
 use native.Mathlib.Decide.{dec_lt}
-use native.Mathlib.Nat.{zero-add}
 use native.Mathlib.Omega.{arith}
 use borrow.Author.Tests.{le-leb, lt-leb}
 use lib.Dec.{T, T_not}
@@ -27,11 +26,10 @@ use lib.ListN.{length, get_or, drop}
 use lib.Seq.{length-take-le}
 use Rattle.bases.specs.declared.place.Pos.{Pos}
 use Rattle.vcf.specs.declared.entry.Entry.{Entry}
-use Rattle.vcf.specs.declared.entry.Part.{Part}
 use Rattle.fields.specs.Allele.{alt_count}
 use Rattle.fields.specs.Bytes.{LF, COMMA, until}
 use Rattle.vcf.specs.Entry.{part, line_at, next_line, entry_of, header_bytes, records_at, header_lines, entries_from, entries_of, readable?, all_readable?, readable_from?, skip_lines, record_at}
-use Rattle.fields.specs.Field.{field_at, field_from, ten_fields?}
+use Rattle.fields.specs.Field.{field_at, field, ten_fields?}
 use Rattle.fields.specs.Genotype.{copy0, copy1}
 use Rattle.fields.specs.Header.{header_line?}
 use Rattle.records.specs.Record.{pos_on, genotype_on, genotype_wrong?}
@@ -157,19 +155,19 @@ module _ (t : List ℕ) where
       go h (yes k) = k
       go h (no k) = absurd (omega (arith, entry_none i (records_at t) (omega arith)))
 
-pub entry_is : (l : List ℕ) (a : ℕ) {p : Pos} {r k end n : ℕ} {bases alt g : List ℕ} {second : Part}
-    → p ≡ pos_on l → r ≡ field_at 3 l → bases ≡ field_from l r → k ≡ field_at 4 l → alt ≡ field_from l k → end ≡ 0 + until COMMA alt
-    → second ≡ part (a + k + end + 1) (length alt - (end + 1)) → n ≡ alt_count alt → g ≡ genotype_on l
+pub entry_is : (l : List ℕ) (a : ℕ) {p : Pos} {r k end m n : ℕ} {bases alt g : List ℕ}
+    → p ≡ pos_on l → r ≡ a + field_at 3 l → bases ≡ field 3 l → k ≡ a + field_at 4 l → alt ≡ field 4 l → end ≡ until COMMA alt
+    → m ≡ length alt - (end + 1) → n ≡ alt_count alt → g ≡ genotype_on l
     → ◌≡◌ {A = Entry} record {
       pos = p;
-      reference = part (a + r) (length bases);
-      first = part (a + k) end;
-      second = second;
+      reference = part r (length bases);
+      first = part k end;
+      second = part (k + end + 1) m;
       alts = n;
       copy0 = copy0 g;
       copy1 = copy1 g;
     } (entry_of l a)
-entry_is l a {alt = alt} e1 e2 e3 e4 e5 e6 e7 e8 e9 = let e = e6 ∙ zero-add (until COMMA alt) in cc
+entry_is l a e1 e2 e3 e4 e5 e6 e7 e8 e9 = cc
 
 -- a line off which an entry can be read has ten fields and a genotype
 pub readable_ten : (l : List ℕ) → T (readable? l) → T (ten_fields? l)

@@ -18,19 +18,20 @@ use Rattle.bases.proofs.FirstLaws.{first_all, all_told?, all_told}
 use Rattle.bases.proofs.TestLaws.{of_true, both, either}
 use Rattle.fields.specs.Header.{header_wrong?}
 use Rattle.records.specs.declared.row.LineFault.{LineFault}
-use Rattle.records.specs.Record.{longest_line, too_long?, record_rows}
+use Rattle.records.specs.Record.{longest_line, too_long?}
 use Rattle.records.specs.Row.{no_fault, row, first_row}
 use Rattle.records.proofs.PlaceLaws.{record_place_fits}
 use Rattle.vcf.specs.declared.list.Fault.{Fault}
 use Rattle.vcf.specs.declared.list.Stage.{Stage}
-use Rattle.vcf.specs.List.{lines_of, text_wrong?, above, next_stage, line_rows, fault, judge_lines, judge_text}
+use Rattle.vcf.specs.declared.list.Stage.TheVariants.{Above, Below}
+use Rattle.vcf.specs.List.{lines_of, text_wrong?, above, next_stage, line_rows, fault, judge_lines, judge_text, below?}
 
 -- of no row, of row 5 behind the last line, of row 3, or of the first row on a line
 module _ (reference name : List ℕ) (P : ℕ → ℕ → Type 0) (none : P 0 0) (by-five : P 5 0) (by_three : P 3 0)
     (by_Row : (s : Stage) (n : ℕ) (l : List ℕ) → let k = first_row (line_rows reference name s n l) in P k.number k.at) where
   lines_all : (s : Stage) (n : ℕ) (ls : List (List ℕ)) → let f = judge_lines reference name s n ls in P f.number f.place
   unfolding judge_lines
-  lines_all s n [] = go s.below
+  lines_all s n [] = go (below? s)
     where
       go : (b : Bool) → let f = pick b (fault 0 0 0) (fault 5 n 0) in P f.number f.place
       go true = none
@@ -70,21 +71,21 @@ given_words k p t =
 
 module _ (reference name : List ℕ) (s : Stage) (n : ℕ) (l : List ℕ) where
   line_given : let k = first_row (line_rows reference name s n l) in T (given? k.number k.at)
-  line_given = first_all no_fault (λ (f : LineFault). T (is f)) tt (line_rows reference name s n l) (all_told is (line_rows reference name s n l) (go s.below))
+  line_given = first_all no_fault (λ (f : LineFault). T (is f)) tt (line_rows reference name s n l) (all_told is (line_rows reference name s n l) (go s))
     where
       is : LineFault → Bool
       is f = given? f.number f.at
 
-      go : (b : Bool) → T (all_told? is (pick b (record_rows reference name s.records s.last l) (row 4 (too_long? l) ∷ row 5 (header_wrong? n l) ∷ [])))
-      go true = tt
-      go false = tt
+      go : (s : Stage) → T (all_told? is (line_rows reference name s n l))
+      go Above = tt
+      go (Below records last) = tt
 
   line_place : (first_row (line_rows reference name s n l)).at ≤ longest_line
-  line_place = go s.below
+  line_place = go s
     where
-      go : (b : Bool) → (first_row (pick b (record_rows reference name s.records s.last l) (row 4 (too_long? l) ∷ row 5 (header_wrong? n l) ∷ []))).at ≤ longest_line
-      go true = record_place_fits l reference name s.records s.last
-      go false = first_all no_fault (λ (f : LineFault). f.at ≤ longest_line) (omega arith) (row 4 (too_long? l) ∷ row 5 (header_wrong? n l) ∷ []) (search rules)
+      go : (s : Stage) → (first_row (line_rows reference name s n l)).at ≤ longest_line
+      go Above = first_all no_fault (λ (f : LineFault). f.at ≤ longest_line) (omega arith) (row 4 (too_long? l) ∷ row 5 (header_wrong? n l) ∷ []) (search rules)
+      go (Below records last) = record_place_fits l reference name records last
 
 module _ (reference name t : List ℕ) where
   pub judge_given : T (given? (judge_text reference name t).number (judge_text reference name t).place)

@@ -21,7 +21,7 @@ use Rattle.bases.specs.Pick.{pick}
 use Rattle.vcf.specs.declared.list.Fault.{Fault}
 use Rattle.vcf.specs.declared.list.Stage.{Stage}
 use Rattle.fields.specs.Bytes.{LF}
-use Rattle.vcf.specs.List.{onto, lines_of, longest_text, text_wrong?, above, next_stage, line_rows, fault, judge_lines, judge_text}
+use Rattle.vcf.specs.List.{onto, lines_of, longest_text, text_wrong?, above, next_stage, line_rows, fault, judge_lines, judge_text, below?}
 use Rattle.records.specs.Row.{first_row}
 use Rattle.vcf.proofs.StageLaws.{stage_at}
 use Rattle.vcf.proofs.ToldLaws.{ClearTo, OnLine, AtEnd, Told, on_line, at_end, nowhere, on_line_not_zero, told, told_only}
@@ -40,7 +40,7 @@ pub record Accepted (reference name t : List ℕ) : Type 0 where
   -- row 3 does not hold
   pub fits : text_wrong? t ≡ false
   -- the lines lead below the column line
-  pub below : (stage_at above (lines_of t) (length (lines_of t))).below ≡ true
+  pub below : below? (stage_at above (lines_of t) (length (lines_of t))) ≡ true
   -- no row holds on any line
   pub clear : ClearTo reference name above 1 (lines_of t) (1 + length (lines_of t))
 
@@ -118,7 +118,7 @@ lines_few (b ∷ bs) = go (eqb b LF) (lines_of bs) (lines_few bs)
 
 lines_line : (reference name : List ℕ) (s : Stage) (n : ℕ) (ls : List (List ℕ)) → (judge_lines reference name s n ls).line ≤ n + length ls
 unfolding judge_lines
-lines_line reference name s n [] = go s.below
+lines_line reference name s n [] = go (below? s)
   where
     go : (b : Bool) → (pick b (fault 0 0 0) (fault 5 n 0)).line ≤ n + 0
     go true = omega arith

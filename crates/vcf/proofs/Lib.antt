@@ -4,6 +4,7 @@ pub mod Determines
 pub mod EntryLaws
 pub mod GivenLaws
 pub mod JudgeLaws
+pub mod LinesLaws
 pub mod ListLaws
 pub mod PartLaws
 pub mod PosAtLaws

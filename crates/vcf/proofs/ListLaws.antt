@@ -6,11 +6,17 @@
 --     judge_stop, judge_more                the first fault of lines: on the first of them, or behind it
 --     judge_end_above, judge_end_below      the first fault of no line
 --     text_wrong, text_right                the first fault of a text, by row 3
+--     judged_err, judged_ok, judged_numbered
+--                                           what `judge` returns: a fault that is numbered, or that there is none
 --     line_rows_numbered                    no row that is tried on a line is numbered 0
 -- Assumes nothing.
 use mathlib.Core.Bool.{Bool, true, false}
 use mathlib.Core.List.{List, [], ◌∷◌}
+use mathlib.Core.Logic.{◌≢◌}
 use mathlib.Core.Path.{◌≡◌, refl}
+use Rattle.std.specs.Prelude.{Ok, Err}
+use Rattle.vcf.specs.declared.list.Fault.{Fault}
+use Rattle.records.proofs.ResultLaws.{result_err, result_ok, result_numbered}
 use Prim.Native.Nat.{ℕ, suc, ◌+◌, ◌≤◌, ◌<◌}
 use native.Mathlib.Nat.{not-suc-le-zero}
 use native.Mathlib.Omega.{arith}
@@ -19,10 +25,12 @@ use lib.Dec.{eqb}
 use lib.ListN.{length, take, drop, length-drop, drop_of_length-le}
 use lib.Seq.{drop-drop}
 use Rattle.bases.specs.Pick.{pick}
+use Rattle.bases.proofs.TestLaws.{of_true, of_false}
 use Rattle.vcf.specs.declared.list.Stage.{Stage}
+use Rattle.vcf.specs.declared.list.Stage.TheVariants.{Above, Below}
 use Rattle.fields.specs.Bytes.{LF, until}
 use Rattle.fields.specs.Header.{header_line?, header_wrong?}
-use Rattle.vcf.specs.List.{onto, lines_of, text_wrong?, above, below_at, next_stage, line_rows, fault, judge_lines, judge_text}
+use Rattle.vcf.specs.List.{onto, lines_of, text_wrong?, above, below_at, next_stage, line_rows, fault, judge_lines, judge_text, judged, below?, records_behind, last_pos}
 use Rattle.fields.specs.Pos.{no_pos}
 use Rattle.records.specs.Record.{too_long?, pos_on, record_rows}
 use Rattle.records.specs.Row.{row, first_row}
@@ -52,29 +60,34 @@ pub lines_past : (t : List ℕ) (a : ℕ) → length t ≤ a → lines_of (drop 
 unfolding lines_of
 lines_past t a h = rw (drop_of_length-le t {i = a} h)
 
-pub next_record : (s : Stage) (l : List ℕ) → s.below ≡ true → next_stage s l ≡ below_at (s.records + 1) (pos_on l)
-next_record s l e = rw e
+pub next_record : (s : Stage) (l : List ℕ) → below? s ≡ true → next_stage s l ≡ below_at (records_behind s + 1) (pos_on l)
+next_record Above l e = absurd (of_false refl (of_true e))
+next_record (Below records last) l e = refl
 
-pub next_header : (s : Stage) (l : List ℕ) → s.below ≡ false → header_line? l ≡ true → next_stage s l ≡ above
-next_header s l e h = rw (e, h)
+pub next_header : (s : Stage) (l : List ℕ) → below? s ≡ false → header_line? l ≡ true → next_stage s l ≡ above
+next_header Above l e h = rw h
+next_header (Below records last) l e h = absurd (of_false e (of_true refl))
 
-pub next_column : (s : Stage) (l : List ℕ) → s.below ≡ false → header_line? l ≡ false → next_stage s l ≡ below_at 0 no_pos
-next_column s l e h = rw (e, h)
+pub next_column : (s : Stage) (l : List ℕ) → below? s ≡ false → header_line? l ≡ false → next_stage s l ≡ below_at 0 no_pos
+next_column Above l e h = rw h
+next_column (Below records last) l e h = absurd (of_false e (of_true refl))
 
-pub next_records : (s : Stage) (l : List ℕ) → (next_stage s l).records ≤ s.records + 1
-next_records s l = go s.below (header_line? l)
+pub next_records : (s : Stage) (l : List ℕ) → records_behind (next_stage s l) ≤ records_behind s + 1
+next_records Above l = go (header_line? l)
   where
-    go : (b h : Bool) → (pick b (below_at (s.records + 1) (pos_on l)) (pick h above (below_at 0 no_pos))).records ≤ s.records + 1
-    go true h = omega arith
-    go false true = omega arith
-    go false false = omega arith
+    go : (h : Bool) → records_behind (pick h above (below_at 0 no_pos)) ≤ 0 + 1
+    go true = omega arith
+    go false = omega arith
+next_records (Below records last) l = omega arith
 
 module _ (reference name : List ℕ) where
-  pub rows_below : (s : Stage) (n : ℕ) (l : List ℕ) → s.below ≡ true → line_rows reference name s n l ≡ record_rows reference name s.records s.last l
-  rows_below s n l e = rw e
+  pub rows_below : (s : Stage) (n : ℕ) (l : List ℕ) → below? s ≡ true → line_rows reference name s n l ≡ record_rows reference name (records_behind s) (last_pos s) l
+  rows_below Above n l e = absurd (of_false refl (of_true e))
+  rows_below (Below records last) n l e = refl
 
-  pub rows_above : (s : Stage) (n : ℕ) (l : List ℕ) → s.below ≡ false → line_rows reference name s n l ≡ row 4 (too_long? l) ∷ row 5 (header_wrong? n l) ∷ []
-  rows_above s n l e = rw e
+  pub rows_above : (s : Stage) (n : ℕ) (l : List ℕ) → below? s ≡ false → line_rows reference name s n l ≡ row 4 (too_long? l) ∷ row 5 (header_wrong? n l) ∷ []
+  rows_above Above n l e = refl
+  rows_above (Below records last) n l e = absurd (of_false e (of_true refl))
 
   pub judge_stop : (s : Stage) (n : ℕ) (l : List ℕ) (ls : List (List ℕ)) → ((first_row (line_rows reference name s n l)).number ≡ 0 → ⊥) → judge_lines reference name s n (l ∷ ls)
       ≡ fault (first_row (line_rows reference name s n l)).number n (first_row (line_rows reference name s n l)).at
@@ -86,11 +99,11 @@ module _ (reference name : List ℕ) where
   unfolding judge_lines
   judge_more s n l ls h = rw (eq-eqb _ _ h)
 
-  pub judge_end_below : (s : Stage) (n : ℕ) → s.below ≡ true → judge_lines reference name s n [] ≡ fault 0 0 0
+  pub judge_end_below : (s : Stage) (n : ℕ) → below? s ≡ true → judge_lines reference name s n [] ≡ fault 0 0 0
   unfolding judge_lines
   judge_end_below s n e = rw e
 
-  pub judge_end_above : (s : Stage) (n : ℕ) → s.below ≡ false → judge_lines reference name s n [] ≡ fault 5 n 0
+  pub judge_end_above : (s : Stage) (n : ℕ) → below? s ≡ false → judge_lines reference name s n [] ≡ fault 5 n 0
   unfolding judge_lines
   judge_end_above s n e = rw e
 
@@ -103,8 +116,14 @@ module _ (reference name : List ℕ) where
   text_right t e = rw e
 
 pub line_rows_numbered : (reference name : List ℕ) (s : Stage) (n : ℕ) (l : List ℕ) → Numbered (line_rows reference name s n l)
-line_rows_numbered reference name s n l = go s.below
-  where
-    go : (b : Bool) → Numbered (pick b (record_rows reference name s.records s.last l) (row 4 (too_long? l) ∷ row 5 (header_wrong? n l) ∷ []))
-    go true = record_rows_numbered reference name s.records s.last l
-    go false = numbered (row 4 (too_long? l) ∷ row 5 (header_wrong? n l) ∷ []) tt
+line_rows_numbered reference name Above n l = numbered (row 4 (too_long? l) ∷ row 5 (header_wrong? n l) ∷ []) tt
+line_rows_numbered reference name (Below records last) n l = record_rows_numbered reference name records last l
+
+pub judged_err : (e f : Fault) → Err e ≡ judged f → (e ≡ f) × (e.number ≢ 0)
+judged_err = result_err (λ (f : Fault). f.number)
+
+pub judged_ok : (x : Unit {0}) (f : Fault) → Ok x ≡ judged f → f.number ≡ 0
+judged_ok = result_ok (λ (f : Fault). f.number)
+
+pub judged_numbered : (e f : Fault) → e ≡ f → e.number ≢ 0 → Err e ≡ judged f
+judged_numbered = result_numbered (λ (f : Fault). f.number)

@@ -20,7 +20,7 @@ use borrow.Author.Tests.{eqb-true, eqb-false, ne_eqb}
 use Rattle.bases.specs.Pick.{pick}
 use Rattle.vcf.specs.declared.list.Fault.{Fault}
 use Rattle.vcf.specs.declared.list.Stage.{Stage}
-use Rattle.vcf.specs.List.{next_stage, line_rows, fault, judge_lines}
+use Rattle.vcf.specs.List.{next_stage, line_rows, fault, judge_lines, below?}
 use Rattle.records.specs.declared.row.LineFault.{LineFault}
 use Rattle.records.specs.Row.{Row, line_fault, first_row}
 use Rattle.vcf.proofs.ListLaws.{line_rows_numbered}
@@ -53,7 +53,7 @@ module _ (reference name : List ℕ) where
     pub line : m ≡ n + length ls
     pub place : p ≡ 0
     -- behind all lines the stage is still above the records (so none is a column line: `no_column_line` of StageLaws)
-    pub above : (stage_at s ls (length ls)).below ≡ false
+    pub above : below? (stage_at s ls (length ls)) ≡ false
     -- no row holds on any line
     pub clear : ClearTo reference name s n ls (n + length ls)
 
@@ -63,7 +63,7 @@ module _ (reference name : List ℕ) where
     pub line : m ≡ 0
     pub place : p ≡ 0
     -- the lines lead below the column line
-    pub below : (stage_at s ls (length ls)).below ≡ true
+    pub below : below? (stage_at s ls (length ls)) ≡ true
     -- no row holds on any line
     pub clear : ClearTo reference name s n ls (n + length ls)
 
@@ -166,9 +166,9 @@ module _ (reference name : List ℕ) where
   pub told : (s : Stage) (n : ℕ) (ls : List (List ℕ))
       → Told s n ls (judge_lines reference name s n ls).number (judge_lines reference name s n ls).line (judge_lines reference name s n ls).place
   unfolding judge_lines
-  told s n [] = go s.below refl
+  told s n [] = go (below? s) refl
     where
-      go : (b : Bool) → s.below ≡ b → Told s n [] (pick b (fault 0 0 0) (fault 5 n 0)).number (pick b (fault 0 0 0) (fault 5 n 0)).line (pick b (fault 0 0 0) (fault 5 n 0)).place
+      go : (b : Bool) → below? s ≡ b → Told s n [] (pick b (fault 0 0 0) (fault 5 n 0)).number (pick b (fault 0 0 0) (fault 5 n 0)).line (pick b (fault 0 0 0) (fault 5 n 0)).place
       go true e = nowhere (record { number = refl; line = refl; place = refl; below = e; clear = λ j a b. absurd (omega arith) })
       go false e = at_end (record { number = refl; line = omega arith; place = refl; above = e; clear = λ j a b. absurd (omega arith) })
   told s n (l ∷ ls) = go (eqb k.number 0) refl (told (next_stage s l) (n + 1) ls)

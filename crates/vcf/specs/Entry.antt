@@ -1,7 +1,7 @@
 -- The entries of a list. An entry is its POS, REF, ALTs and the ordered pair of copy alleles that the genotype's digits name; REF and ALTs
 -- are parts of the list's text.
 -- Assumes nothing: these are definitions.
-use Rattle.std.specs.Prelude.{Bool, true, not, ◌&&◌, List, [], ◌∷◌, ℕ, zero, suc, ◌+◌, ◌-◌, leb, length, take, drop}
+use Rattle.std.specs.Prelude.{Bool, true, not, ◌&&◌, List, [], ◌∷◌, ℕ, zero, suc, ◌+◌, ◌-◌, eqb, leb, length, take, drop}
 use Rattle.bases.specs.Pick.{pick}
 use Rattle.vcf.specs.declared.entry.Part.{Part}
 use Rattle.vcf.specs.declared.entry.Entry.{Entry}
@@ -27,6 +27,10 @@ part at len = record { at = at; len = len }
 -- The bytes of a part of a text.
 abbrev pub bytes_of : List ℕ → Part → List ℕ
 bytes_of t p = take p.len (drop p.at t)
+
+-- The last ALT of an entry.
+abbrev pub last_alt : Entry → Part
+last_alt e = pick (eqb e.alts 2) e.second e.first
 
 -- The entry on a record's line that begins at a in its text.
 abbrev pub entry_of : List ℕ → ℕ → Entry

@@ -1,2 +1,3 @@
 pub mod Entry
+pub mod Lines
 pub mod List

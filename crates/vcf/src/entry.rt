@@ -1,22 +1,33 @@
 // The entries of a list, read one at a time where they are needed.
-ghost use Rattle.std.specs.Prelude.{◌≡◌, ◌+◌, ◌-◌, ◌≤◌, ◌<◌, ◌^◌, T, length};
+ghost use Rattle.std.specs.Prelude.{◌≡◌, ◌+◌, ◌≤◌, ◌<◌, ◌^◌, T, length};
 ghost use Rattle.records.specs.Record.{pos_on};
-ghost use Rattle.vcf.specs.Entry.{line_at, next_line, entry_of, records_at, lines_above, part, readable?, readable_from?, record_at};
+ghost use Rattle.vcf.specs.Entry.{line_at, next_line, bytes_of, last_alt};
+ghost use Rattle.vcf.specs.Entry.{entry_of, records_at, lines_above, readable?, readable_from?, record_at};
 
+use crate::lines::lines_of;
 use bases::place::Pos;
 use fields::allele::alt_count;
 use fields::bytes::{COMMA, LF, TAB, find};
-use fields::field::{field_from, fields_of};
-use fields::genotype::genotype_of;
+use fields::field::field_from;
 use fields::header::is_header_line;
 use fields::pos::read_pos;
-use records::record::pos_on;
+use records::line::record_on;
 
 // A part of a text: where it begins and how many bytes it has.
 #[derive(Clone, Copy)]
 pub struct Part {
     pub at: usize,
     pub len: usize,
+}
+
+impl Part {
+    // The bytes of the part.
+    pub fn bytes(self, text: &[u8]) -> &[u8]
+        requires { self.at + self.len ≤ length text.now }
+        ensures { result.now ≡ bytes_of text.now self }
+    {
+        &text[self.at..self.at + self.len]
+    }
 }
 
 // An entry: POS, REF and the ALTs as parts of the list's text (`second` is empty where there is one ALT), the number of ALTs, and the
@@ -32,6 +43,19 @@ pub struct Entry {
     pub copy1: usize,
 }
 
+impl Entry {
+    // The last ALT.
+    pub fn last_alt(self) -> Part
+        ensures { result ≡ last_alt self }
+    {
+        if self.alts == 2 {
+            self.second
+        } else {
+            self.first
+        }
+    }
+}
+
 // Where the line behind the one at `at` begins.
 pub fn next_line(text: &[u8], at: usize) -> usize
     requires { at < length text.now }
@@ -40,73 +64,49 @@ pub fn next_line(text: &[u8], at: usize) -> usize
     find(text, at, LF) + 1
 }
 
+// How many lines stand above the records, and how many bytes they take with the LF of each.
+fn above(text: &[u8]) -> (usize, usize)
+    ensures lines { result.0 ≡ lines_above text.now }
+    ensures bytes { result.1 ≡ records_at text.now }
+{
+    let mut lines: usize = 0;
+    let mut bytes: usize = 0;
+    for line in lines_of(text) {
+        lines += 1;
+        bytes += line.len() + 1;
+        if !is_header_line(line) {
+            return (lines, bytes);
+        }
+    }
+    (lines, bytes)
+}
+
 // Where the records begin.
 pub fn records_at(text: &[u8]) -> usize
     ensures { result ≡ records_at text.now }
 {
-    let mut at: usize = 0;
-    while at < text.len() {
-        let end = find(text, at, LF);
-        let header = is_header_line(&text[at..end]);
-        at = end + 1;
-        if !header {
-            return at;
-        }
-    }
-    at
+    above(text).1
 }
 
 // How many lines stand above the records.
 pub fn lines_above(text: &[u8]) -> usize
     ensures { result ≡ lines_above text.now }
 {
-    let mut at: usize = 0;
-    let mut lines: usize = 0;
-    while at < text.len() {
-        let end = find(text, at, LF);
-        let header = is_header_line(&text[at..end]);
-        at = end + 1;
-        lines += 1;
-        if !header {
-            return lines;
-        }
-    }
-    lines
+    above(text).0
 }
 
-// Where record i begins; not below the text's length where there is none.
+// Where record i begins; not below the text's length where there is none, as `record_at` of specs/Entry.antt has it.
 pub fn record_at(text: &[u8], i: usize) -> usize
     ensures { result ≡ record_at text.now i }
 {
     let mut at = records_at(text);
-    let mut left = i;
-    while 0 < left {
+    for _ in 0..i {
         if text.len() <= at {
             return at;
         }
         at = next_line(text, at);
-        left -= 1;
     }
     at
-}
-
-// The second ALT of a field of `len` bytes that begins at `at` in its text, where the first ends at `end` in the field.
-fn second_part(at: usize, end: usize, len: usize) -> Part
-    requires { (end ≤ len)
-        × (at + len + 1 < 2 ^ 64) }
-    ensures { result ≡ part (at + end + 1) (len - (end + 1)) }
-{
-    if end < len {
-        Part {
-            at: at + end + 1,
-            len: len - end - 1,
-        }
-    } else {
-        Part {
-            at: at + end + 1,
-            len: 0,
-        }
-    }
 }
 
 // The entry on a record's line that begins at `at` in its text.
@@ -115,27 +115,25 @@ fn entry_on(line: &[u8], at: usize) -> Entry
         × (at + length line.now + 1 < 2 ^ 64) }
     ensures { result ≡ entry_of line.now at }
 {
-    let fields = fields_of(line);
-    let pos = pos_on(line, fields);
-    let ref_at = fields.reference;
-    let bases = field_from(line, ref_at);
-    let alt_at = fields.alt;
-    let alt = field_from(line, alt_at);
+    let record = record_on(line);
+    let alt = record.alt();
+    let alt_at = at + record.fields.alt;
     let end = find(alt, 0, COMMA);
-    let sample_at = fields.sample;
-    let genotype = genotype_of(field_from(line, sample_at));
-    let second = second_part(at + alt_at, end, alt.len());
+    let genotype = record.genotype();
     Entry {
-        pos,
+        pos: record.pos(),
         reference: Part {
-            at: at + ref_at,
-            len: bases.len(),
+            at: at + record.fields.reference,
+            len: record.reference().len(),
         },
         first: Part {
-            at: at + alt_at,
+            at: alt_at,
             len: end,
         },
-        second,
+        second: Part {
+            at: alt_at + end + 1,
+            len: alt.len().saturating_sub(end + 1),
+        },
         alts: alt_count(alt),
         copy0: (genotype[0] - b'0') as usize,
         copy1: (genotype[2] - b'0') as usize,

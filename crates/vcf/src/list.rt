@@ -2,14 +2,15 @@
 ghost use Rattle.std.specs.Prelude.{◌≡◌, ◌+◌, ◌<◌, ◌^◌, T, true};
 ghost use Rattle.bases.specs.Letter.{bases_of};
 ghost use Rattle.fields.specs.Field.{ten_fields?};
-ghost use Rattle.vcf.specs.List.{text_wrong?, line_rows, next_stage, judge_text};
-ghost use Rattle.records.specs.Row.{first_row};
+ghost use Rattle.vcf.specs.List.{text_wrong?, below?, records_behind, line_rows, next_stage, fault, judge_text, judged};
+ghost use Rattle.records.specs.Row.{first_row, told};
 
+use crate::lines::lines_of;
 use bases::place::Pos;
-use fields::bytes::{LF, find};
-use fields::field::fields_of;
+use fields::bytes::LF;
 use fields::header::{header_wrong, is_header_line};
-use records::record::{is_too_long, pos_on, record_fault};
+use records::line::record_on;
+use records::record::{is_too_long, record_fault};
 use records::row::LineFault;
 
 // The most bytes that a list's text has.
@@ -17,14 +18,13 @@ pub const LONGEST_TEXT: usize = 65_536;
 
 // Where a walk from line to line stands: above the records, or below the column line behind so many records, the last at POS `last`.
 #[derive(Clone, Copy)]
-pub struct Stage {
-    pub below: bool,
-    pub records: usize,
-    pub last: Pos,
+pub enum Stage {
+    Above,
+    Below { records: usize, last: Pos },
 }
 
 // A row that holds, the line where it does (from 1; 0 for row 3), and the place in that line that it tells (from 0; 0 in all rows but 20
-// to 23). No fault is three zeros.
+// to 23). The row is told by its number, and 'about no line' by 0, as at records' LineFault and for the reason that stands there.
 #[derive(Clone, Copy)]
 pub struct Fault {
     pub number: u32,
@@ -36,103 +36,76 @@ pub struct Fault {
 fn is_text_wrong(text: &[u8]) -> bool
     ensures { result ≡ text_wrong? text.now }
 {
-    let n = text.len();
-    if n == 0 {
-        return true;
-    }
-    if LONGEST_TEXT < n {
-        return true;
-    }
-    text[n - 1] != LF
+    text.len() > LONGEST_TEXT || text.last() != Some(&LF)
 }
 
 // The first row that holds on the n-th line of a text, or none.
-fn line_fault(reference: &[u8], name: &[u8], stage: Stage, n: usize, line: &[u8]) -> LineFault
-    ensures { result ≡ first_row (line_rows (bases_of reference.now) name.now stage n line.now) }
+fn line_fault(
+    reference: &[u8],
+    name: &[u8],
+    stage: Stage,
+    n: usize,
+    line: &[u8],
+) -> Result<(), LineFault>
+    ensures { result ≡ told (first_row (line_rows (bases_of reference.now) name.now stage n line.now)) }
 {
-    if stage.below {
-        return record_fault(reference, name, stage.records, stage.last, line);
+    match stage {
+        Stage::Below { records, last } => record_fault(reference, name, records, last, line),
+        Stage::Above if is_too_long(line) => Err(LineFault { number: 4, at: 0 }),
+        Stage::Above if header_wrong(n, line) => Err(LineFault { number: 5, at: 0 }),
+        Stage::Above => Ok(()),
     }
-    if is_too_long(line) {
-        return LineFault { number: 4, at: 0 };
-    }
-    if header_wrong(n, line) {
-        return LineFault { number: 5, at: 0 };
-    }
-    LineFault { number: 0, at: 0 }
 }
 
 // Where a line leads. Below the column line it is a line of ten fields.
 fn next_stage(stage: Stage, line: &[u8]) -> Stage
-    requires { (stage.below ≡ true → T (ten_fields? line.now))
-        × (stage.records + 1 < 2 ^ 64) }
+    requires { (below? stage ≡ true → T (ten_fields? line.now))
+        × (records_behind stage + 1 < 2 ^ 64) }
     ensures { result ≡ next_stage stage line.now }
 {
-    if stage.below {
-        let pos = pos_on(line, fields_of(line));
-        return Stage {
-            below: true,
-            records: stage.records + 1,
-            last: pos,
-        };
-    }
-    if is_header_line(line) {
-        return Stage {
-            below: false,
+    match stage {
+        Stage::Below { records, .. } => Stage::Below {
+            records: records + 1,
+            last: record_on(line).pos(),
+        },
+        Stage::Above if is_header_line(line) => Stage::Above,
+        Stage::Above => Stage::Below {
             records: 0,
             last: Pos(0),
-        };
+        },
     }
-    Stage {
-        below: true,
-        records: 0,
-        last: Pos(0),
+}
+
+// A row that holds at a line, and the place in it.
+fn fault_at(number: u32, line: usize, place: usize) -> Fault
+    ensures { result ≡ fault number line place }
+{
+    Fault {
+        number,
+        line,
+        place,
     }
 }
 
 // The first fault of a list's text: row 3, then the lines from the top.
-pub fn judge(reference: &[u8], name: &[u8], text: &[u8]) -> Fault
-    ensures { result ≡ judge_text (bases_of reference.now) name.now text.now }
+pub fn judge(reference: &[u8], name: &[u8], text: &[u8]) -> Result<(), Fault>
+    ensures { result ≡ judged (judge_text (bases_of reference.now) name.now text.now) }
 {
     if is_text_wrong(text) {
-        return Fault {
-            number: 3,
-            line: 0,
-            place: 0,
-        };
+        return Err(fault_at(3, 0, 0));
     }
-    let mut stage = Stage {
-        below: false,
-        records: 0,
-        last: Pos(0),
-    };
+    let mut stage = Stage::Above;
+    // By hand, since the count is read behind the loop too, where `enumerate` tells none.
     let mut n: usize = 1;
-    let mut at: usize = 0;
-    while at < text.len() {
-        let end = find(text, at, LF);
-        let told = line_fault(reference, name, stage, n, &text[at..end]);
-        if told.number != 0 {
-            return Fault {
-                number: told.number,
-                line: n,
-                place: told.at,
-            };
+    for line in lines_of(text) {
+        if let Err(told) = line_fault(reference, name, stage, n, line) {
+            return Err(fault_at(told.number, n, told.at));
         }
-        stage = next_stage(stage, &text[at..end]);
+        stage = next_stage(stage, line);
         n += 1;
-        at = end + 1;
     }
-    if stage.below {
-        Fault {
-            number: 0,
-            line: 0,
-            place: 0,
-        }
-    } else {
-        Fault {
-            number: 5,
-            line: n,
-            place: 0,
-        }
+    match stage {
+        Stage::Above => Err(fault_at(5, n, 0)),
+        Stage::Below { .. } => Ok(()),
     }
 }

@@ -10,9 +10,8 @@ pub mod FieldThenLaws
 pub mod FilledLaws
 pub mod HeaderLaws
 pub mod LinePartLaws
-pub mod LineRoomLaws
+pub mod LineReadLaws
 pub mod MoveLaws
-pub mod MovedLaws
 pub mod NewAlleles
 pub mod NewOrderLaws
 pub mod OrderLaws

@@ -25,7 +25,7 @@ use Rattle.vcf.specs.declared.entry.Part.{Part}
 use Rattle.vcf.specs.declared.entry.Entry.{Entry}
 use Rattle.fields.specs.Allele.{is_allele?, longest_allele, first_alt, two_alts?, second_alt}
 use Rattle.fields.specs.Bytes.{LF, COMMA, until}
-use Rattle.vcf.specs.Entry.{line_at, bytes_of, entry_of}
+use Rattle.vcf.specs.Entry.{line_at, bytes_of, entry_of, last_alt}
 use Rattle.fields.specs.Field.{field, ten_fields?}
 use Rattle.fields.proofs.BytesLaws.{until_le}
 use Rattle.vcf.proofs.PartLaws.{first_within, second_within, first_bytes, second_bytes}
@@ -34,7 +34,7 @@ use Rattle.records.proofs.RecordLineLaws.{RecordLine}
 use Rattle.normal.specs.declared.cut.Cuts.{Cuts}
 use Rattle.normal.specs.declared.entry.Spelled.{Spelled}
 use Rattle.normal.specs.Form.{NormalForm}
-use Rattle.normal.specs.Spelled.{cuts_of, spelled, last_alt, form_of, Within, Stands, normal_entry, bases_spelled, form_spelled}
+use Rattle.normal.specs.Spelled.{cuts_of, spelled, form_of, Within, Stands, normal_entry, bases_spelled, form_spelled}
 use Rattle.written.specs.Written.{new_on, new_ref, new_first, new_second}
 use Rattle.normal.proofs.EntryLaws.{Bounds, bounds}
 use Rattle.normal.proofs.NormalEntry.{normal_entry_is}

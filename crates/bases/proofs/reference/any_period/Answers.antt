@@ -1,6 +1,6 @@
 -- `bases::reference::any_period` meets its contract. The loop's invariant: there is a period in 1 .. g exactly if there is one
--- in 1 .. q, and the place has a base q behind it, or is 0. The measure is q. Assumes nothing.
-use mathlib.Core.Path.{◌≡◌, refl, sym, ap, ◌∙◌}
+-- in 1 .. q, and the place has a base q behind it, or is 0. Assumes nothing.
+use mathlib.Core.Path.{◌≡◌, sym, ap, ◌∙◌}
 use Prim.Native.Nat.{ℕ, ◌+◌, ◌≤◌}
 use native.Mathlib.Omega.{arith}
 use lib.ListN.{length}
@@ -11,27 +11,24 @@ use Rattle.bases.proofs.NearestLaws.{nearest_none, nearest_some}
 use Rattle.bases.proofs.PeriodLaws.{period_past, any_period_zero, any_period_stop, any_period_more}
 use Rattle.bases.proofs.reference.any_period.Goals as goal
 
-pub loop-q-init : goal.loop-q-init
-loop-q-init c = (omega arith, refl)
-
 pub returns-then-stretch-q : goal.returns-then-stretch-q
 returns-then-stretch-q c = let s = c.args.stretch.now in
     let l = c.loop-q in
     sym (any_period_stop l.q (bases_of s) (omega arith) (period_past s l.q c.if-stretch-q.true)) ∙ l.invariant.1
 
-pub returns-then-at-stretch : goal.returns-then-at-stretch
-returns-then-at-stretch c = let s = c.args.stretch.now in
+pub returns-in_default : goal.returns-in_default
+returns-in_default c = let s = c.args.stretch.now in
     let l = c.loop-q in
     let there : l.at + l.q ≤ length (bases_of s) = omega (arith, bases_length s) in
-    let none = nearest_none l.at l.q (bases_of s) there (sym c.nearest_difference-at.ensures ∙ c.if-at-stretch.true ∙ sym (bases_length s)) in
+    let none = nearest_none l.at l.q (bases_of s) there (sym c.nearest_difference.ensures ∙ c.in_default.is) in
     sym (any_period_stop l.q (bases_of s) (omega arith) none) ∙ l.invariant.1
 
 pub loop-q-preserved : goal.loop-q-preserved
 loop-q-preserved c = let s = c.args.stretch.now in
     let l = c.loop-q in
     let there : l.at + l.q ≤ length (bases_of s) = omega (arith, bases_length s) in
-    let some = nearest_some l.at l.q (bases_of s) there (λ e. c.if-at-stretch.false (c.nearest_difference-at.ensures ∙ e ∙ bases_length s)) in
-    (omega (arith, some.0, c.nearest_difference-at.ensures, bases_length s), sym (any_period_more l.q (bases_of s) (omega arith) some.1) ∙ l.invariant.1)
+    let some = nearest_some l.at l.q (bases_of s) c.in-Some.place there (sym c.nearest_difference.ensures ∙ c.in-Some.is) in
+    (omega (arith, some.0, bases_length s), sym (any_period_more l.q (bases_of s) (omega arith) some.1) ∙ l.invariant.1)
 
 pub returns : goal.returns
 returns c = let s = c.args.stretch.now in

@@ -1,14 +1,18 @@
--- `fields::genotype::format_wrong` meets its contract: the field is GT, or else begins with GT: or is wrong. Assumes nothing.
-use mathlib.Core.Bool.{true, false}
-use mathlib.Core.Path.{◌≡◌, sym, ◌∙◌}
+-- `fields::genotype::format_wrong` meets its contract: `!=` finds other lists than GT. Assumes nothing.
+use mathlib.Core.Bool.{not, true, false}
+use mathlib.Core.Path.{◌≡◌, sym, ap, ◌∙◌}
+use borrow.Author.Tests.{not-true, not-false}
+use Rattle.bases.proofs.SameLaws.{eq_same}
 use Rattle.bases.specs.Same.{same?}
 use Rattle.fields.specs.Bytes.{genotype_key}
 use Rattle.fields.proofs.genotype.format_wrong.Goals as goal
 
-pub returns-then-same_bytes : goal.returns-then-same_bytes
-returns-then-same_bytes c = let e : same? genotype_key c.args.field.now ≡ true = sym c.same_bytes.ensures ∙ c.if-same_bytes.true in
-    rw e
+pub returns-then-ne : goal.returns-then-ne
+returns-then-ne c = let f = c.args.field.now in
+    let h : same? genotype_key f ≡ false = sym (eq_same genotype_key f) ∙ not-true _ (sym c.ne.ensures ∙ c.if-ne.true) in
+    rw h (ap not c.begins.ensures)
 
-pub returns : goal.returns
-returns c = let e : same? genotype_key c.args.field.now ≡ false = sym c.same_bytes.ensures ∙ c.if-same_bytes.false in
-    rw (e, c.begins.ensures)
+pub returns-else-ne : goal.returns-else-ne
+returns-else-ne c = let f = c.args.field.now in
+    let h : same? genotype_key f ≡ true = sym (eq_same genotype_key f) ∙ not-false _ (sym c.ne.ensures ∙ c.if-ne.false) in
+    rw h c.if-ne.false

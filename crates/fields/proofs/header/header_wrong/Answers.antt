@@ -9,12 +9,12 @@ pub returns-then-n-eq1 : goal.returns-then-n-eq1
 unfolding header_wrong?
 returns-then-n-eq1 c = simp (eq-eqb _ _ c.if-n-eq1.true, c.is_version_line.ensures)
 
-pub returns-then-is_header_line : goal.returns-then-is_header_line
+pub returns-then-not-is_header_line : goal.returns-then-not-is_header_line
 unfolding header_wrong?
-returns-then-is_header_line c = let e : header_line? c.args.line.now ≡ true = sym c.is_header_line.ensures ∙ c.if-is_header_line.true in
-    simp (ne_eqb _ _ c.if-n-eq1.false, e)
-
-pub returns : goal.returns
-unfolding header_wrong?
-returns c = let e : header_line? c.args.line.now ≡ false = sym c.is_header_line.ensures ∙ c.if-is_header_line.false in
+returns-then-not-is_header_line c = let e : header_line? c.args.line.now ≡ false = sym c.is_header_line.ensures ∙ c.if-not-is_header_line.true in
     simp (ne_eqb _ _ c.if-n-eq1.false, e, c.is_column_line.ensures)
+
+pub returns-else-not-is_header_line : goal.returns-else-not-is_header_line
+unfolding header_wrong?
+returns-else-not-is_header_line c = let e : header_line? c.args.line.now ≡ true = sym c.is_header_line.ensures ∙ c.if-not-is_header_line.false in
+    simp (ne_eqb _ _ c.if-n-eq1.false, c.is_header_line.ensures, e)

@@ -1,14 +1,11 @@
--- `fields::pos::read_pos` meets its contract. The loop's invariant: the field's bytes are all digits exactly if those from i on are, these write the field's
--- number behind the value so far, and that value is no larger than the largest POS. The measure is what is left of the field. Assumes nothing.
+-- `fields::pos::read_pos` meets its contract. The loop's invariant: the field's bytes are all digits exactly if those that are left are, these write the
+-- field's number behind the value so far, and that value is no larger than the largest POS. Assumes nothing.
 use mathlib.Core.Path.{◌≡◌}
-use Prim.Native.Nat.{◌≤◌, ◌-◌}
-use lib.ListN.{length, drop}
+use Prim.Native.Nat.{◌≤◌}
+use lib.ListN.{drop}
 use Rattle.fields.specs.Pos.{all_digits?, value_from, largest_pos}
 use Rattle.fields.proofs.pos.read_pos.Given as goal
 
-abbrev pub invariant-loop-i : goal.invariant-loop-i
-invariant-loop-i l = (l.i ≤ length l.field) × (l.value ≤ largest_pos) × (all_digits? (drop l.i l.field) ≡ all_digits? l.field) ×
-    (value_from l.value (drop l.i l.field) ≡ value_from 0 l.field)
-
-abbrev pub decreases-loop-i : goal.decreases-loop-i
-decreases-loop-i l = length l.field - l.i
+abbrev pub invariant-loop-byte : goal.invariant-loop-byte
+invariant-loop-byte l = (l.value ≤ largest_pos) × (all_digits? (drop l.byte-index l.field) ≡ all_digits? l.field) ×
+    (value_from l.value (drop l.byte-index l.field) ≡ value_from 0 l.field)

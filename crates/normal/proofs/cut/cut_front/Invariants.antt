@@ -1,6 +1,6 @@
 -- `normal::cut::cut_front` meets its contract. The loop's invariant: below t all have the same base.
--- The measure is what is left of the most. Assumes nothing.
-use Prim.Native.Nat.{ℕ, ◌-◌, ◌≤◌, ◌<◌}
+-- Assumes nothing.
+use Prim.Native.Nat.{ℕ, ◌<◌}
 use lib.Dec.{T}
 use Rattle.bases.specs.Letter.{bases_of}
 use Rattle.bases.specs.Stretch.{stretch}
@@ -9,7 +9,4 @@ use Rattle.normal.specs.Spelled.{three}
 use Rattle.normal.proofs.cut.cut_front.Given as goal
 
 abbrev pub invariant-loop-t : goal.invariant-loop-t
-invariant-loop-t l = (l.t ≤ l.most) × ((i : ℕ) → i < l.t → T (front_alike? (three l.start (stretch (bases_of l.reference) l.start.0 l.span) (bases_of l.b) (bases_of l.c)) i))
-
-abbrev pub decreases-loop-t : goal.decreases-loop-t
-decreases-loop-t l = l.most - l.t
+invariant-loop-t l = (i : ℕ) → i < l.t → T (front_alike? (three l.start (stretch (bases_of l.reference) l.start.0 l.span) (bases_of l.b) (bases_of l.c)) i)

@@ -19,19 +19,19 @@ pub returns-then-back-shortest : goal.returns-then-back-shortest
 returns-then-back-shortest c = let x = c.args in
     cuts_are (bases_of x.reference.now) x.start (stretch (bases_of x.reference.now) x.start.0 x.span) x.b.now x.c.now
     (stretch_length (bases_of x.reference.now) x.start.0 x.span (omega arith))
-    c.shorter.ensures
-    c.shorter-shortest.ensures
+    c.min.ensures
+    c.min-shortest.ensures
     c.cut_back-back.ensures
     c.cut_front-front.ensures
 
 pub returns-else-back-shortest : goal.returns-else-back-shortest
 returns-else-back-shortest c = let x = c.args in
     let f = three x.start (stretch (bases_of x.reference.now) x.start.0 x.span) (bases_of x.b.now) (bases_of x.c.now) in
-    let n = c.shorter-shortest.result - c.cut_back-back.result - 1 in
+    let n = c.min-shortest.result - c.cut_back-back.result - 1 in
     let none : 0 ≡ run (front_alike? f) n = omega (arith, run_le (front_alike? f) n) in
     cuts_are (bases_of x.reference.now) x.start (stretch (bases_of x.reference.now) x.start.0 x.span) x.b.now x.c.now
     (stretch_length (bases_of x.reference.now) x.start.0 x.span (omega arith))
-    c.shorter.ensures
-    c.shorter-shortest.ensures
+    c.min.ensures
+    c.min-shortest.ensures
     c.cut_back-back.ensures
     none

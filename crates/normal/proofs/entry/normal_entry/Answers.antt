@@ -5,7 +5,8 @@ use native.Mathlib.Omega.{arith}
 use Rattle.bases.specs.Letter.{bases_of}
 use Rattle.bases.specs.declared.place.Place.{Place}
 use Rattle.vcf.specs.declared.entry.Part.{Part}
-use Rattle.normal.specs.Spelled.{spelled, last_alt}
+use Rattle.normal.specs.Spelled.{spelled}
+use Rattle.vcf.specs.Entry.{last_alt}
 use Rattle.bases.proofs.LetterLaws.{bases_length}
 use Rattle.normal.proofs.EntryLaws.{bounds, normal_entry_of}
 use Rattle.normal.proofs.entry.normal_entry.Goals as goal
@@ -14,74 +15,40 @@ pub entry_cuts-cuts-requires : goal.entry_cuts-cuts-requires
 entry_cuts-cuts-requires c = (c.requires, c.place_of-start.ensures)
 
 pub overflow_add-new_start : goal.overflow_add-new_start
-overflow_add-new_start c = let x = c.args in
-    let k = bounds (bases_of x.reference.now) x.text.now x.entry c.requires c.entry_cuts-cuts.result
-    c.entry_cuts-cuts.ensures in
-    let st = c.requires in
-    omega (arith, bases_length x.reference.now, ap (λ (p : Place). p.0) c.place_of-start.ensures)
+overflow_add-new_start c = let k = bounds _ _ _ c.requires _ c.entry_cuts-cuts.ensures in
+    omega (arith, bases_length c.args.reference.now, ap (λ (p : Place). p.0) c.place_of-start.ensures)
 
 pub taken_in-requires : goal.taken_in-requires
-taken_in-requires c = let x = c.args in
-    let k = bounds (bases_of x.reference.now) x.text.now x.entry c.requires c.entry_cuts-cuts.result
-    c.entry_cuts-cuts.ensures in
-    let st = c.requires in
+taken_in-requires c = let k = bounds _ _ _ c.requires _ c.entry_cuts-cuts.ensures in
     omega arith
 
 pub overflow_sub-new_start : goal.overflow_sub-new_start
-overflow_sub-new_start c = let c8 = c in
-    let x = c8.args in
-    let k = bounds (bases_of x.reference.now) x.text.now x.entry c8.requires c.entry_cuts-cuts.result c.entry_cuts-cuts.ensures in
-    let st = c8.requires in
+overflow_sub-new_start c = let k = bounds _ _ _ c.requires _ c.entry_cuts-cuts.ensures in
     omega (arith, ap (λ (p : Place). p.0) c.place_of-start.ensures)
 
-pub overflow_add-result : goal.overflow_add-result
-overflow_add-result c = let c8 = c in
-    let x = c8.args in
-    let k = bounds (bases_of x.reference.now) x.text.now x.entry c8.requires c.entry_cuts-cuts.result
-    c.entry_cuts-cuts.ensures in
-    let st = c8.requires in
-    omega (arith, bases_length x.reference.now, ap (λ (p : Place). p.0) c.place_of-start.ensures)
-
 pub overflow_sub-result : goal.overflow_sub-result
-overflow_sub-result c = let c8 = c in
-    let x = c8.args in
-    let k = bounds (bases_of x.reference.now) x.text.now x.entry c8.requires c.entry_cuts-cuts.result
-    c.entry_cuts-cuts.ensures in
-    let st = c8.requires in
-    omega (arith, ap (λ (p : Place). p.0) c8.place_of-start.ensures)
+overflow_sub-result c = let k = bounds _ _ _ c.requires _ c.entry_cuts-cuts.ensures in
+    omega (arith, ap (λ (p : Place). p.0) c.place_of-start.ensures)
 
 pub overflow_sub-result-2 : goal.overflow_sub-result-2
-overflow_sub-result-2 c = let c8 = c in
-    let x = c8.args in
-    let k = bounds (bases_of x.reference.now) x.text.now x.entry c8.requires c.entry_cuts-cuts.result
-    c.entry_cuts-cuts.ensures in
-    let st = c8.requires in
-    omega (arith, ap (λ (p : Place). p.0) c8.place_of-start.ensures)
+overflow_sub-result-2 c = let k = bounds _ _ _ c.requires _ c.entry_cuts-cuts.ensures in
+    omega (arith, ap (λ (p : Place). p.0) c.place_of-start.ensures)
 
 pub spelled_part-requires : goal.spelled_part-requires
-spelled_part-requires c = let c8 = c in
-    let x = c8.args in
-    let k = bounds (bases_of x.reference.now) x.text.now x.entry c8.requires c.entry_cuts-cuts.result
-    c.entry_cuts-cuts.ensures in
-    let st = c8.requires in
+spelled_part-requires c = let k = bounds _ _ _ c.requires _ c.entry_cuts-cuts.ensures in
     (omega arith, omega arith, omega arith, omega arith)
 
 pub spelled_part-requires-2 : goal.spelled_part-requires-2
-spelled_part-requires-2 c = let c8 = c in
-    let x = c8.args in
-    let k = bounds (bases_of x.reference.now) x.text.now x.entry c8.requires c8.entry_cuts-cuts.result
-    c8.entry_cuts-cuts.ensures in
-    let st = c8.requires in
-    let l : c.last_alt.result ≡ last_alt x.entry = c.last_alt.ensures in
+spelled_part-requires-2 c = let k = bounds _ _ _ c.requires _ c.entry_cuts-cuts.ensures in
+    let l : c.last_alt.result ≡ last_alt c.args.entry = c.last_alt.ensures in
     let at = ap (λ (p : Part). p.at) l in
     let len = ap (λ (p : Part). p.len) l in
-    (omega arith, omega arith, omega arith, omega (arith, c8.well_formed))
+    (omega arith, omega arith, omega arith, omega (arith, c.well_formed))
 
 pub returns : goal.returns
-returns c = let c8 = c in
-    let x = c8.args in
-    normal_entry_of (bases_of x.reference.now) x.text.now x.entry c8.place_of-start.result c8.entry_cuts-cuts.result
+returns c = let x = c.args in
+    normal_entry_of (bases_of x.reference.now) x.text.now x.entry c.place_of-start.result c.entry_cuts-cuts.result
     c.taken_in.result c.spelled_part.result c.spelled_part-2.result
-    c8.place_of-start.ensures c8.entry_cuts-cuts.ensures c.taken_in.ensures
+    c.place_of-start.ensures c.entry_cuts-cuts.ensures c.taken_in.ensures
     c.spelled_part.ensures
-    (c.spelled_part-2.ensures ∙ ap (spelled c8.entry_cuts-cuts.result) c.last_alt.ensures)
+    (c.spelled_part-2.ensures ∙ ap (spelled c.entry_cuts-cuts.result) c.last_alt.ensures)

@@ -1,107 +1,79 @@
 -- `vcf::entry::entry_on` meets its contract: each field is read where it begins, and is what the definition names. Assumes nothing.
-use mathlib.Core.Path.{◌≡◌}
+use mathlib.Core.List.{List}
+use mathlib.Core.Path.{ap, ◌∙◌}
+use Prim.Native.Nat.{ℕ, ◌+◌}
 use native.Mathlib.Omega.{arith}
 use lib.Dec.{lit<}
-use lib.ListN.{length, drop}
-use Rattle.fields.specs.Bytes.{TAB, COMMA, until}
+use lib.ListN.{length}
+use Rattle.fields.specs.Bytes.{COMMA}
 use Rattle.fields.specs.Field.{field_at, field}
-use Rattle.fields.proofs.FieldLaws.{until_within, field_length, field_within, read}
+use Rattle.fields.proofs.BytesLaws.{until_le}
+use Rattle.fields.proofs.FieldLaws.{read}
+use Rattle.records.specs.Record.{genotype_on, pos_on}
+use Rattle.records.proofs.RecordLaws.{copies_read, reference_within, alt_within}
 use Rattle.vcf.proofs.EntryLaws.{readable_ten, readable_right, entry_is}
-use Rattle.records.proofs.RecordLaws.{sample_read, copies_read}
 use Rattle.vcf.proofs.entry.entry_on.Goals as goal
 
-pub fields_of-fields-requires : goal.fields_of-fields-requires
-fields_of-fields-requires c = readable_ten c.args.line.now c.requires.0
+pub record_on-record-requires : goal.record_on-record-requires
+record_on-record-requires c = readable_ten c.args.line.now c.requires.0
 
-pub pos_on-pos-requires : goal.pos_on-pos-requires
-pos_on-pos-requires c = (readable_ten c.args.line.now c.requires.0, c.fields_of-fields.ensures)
-
-pub field_from-bases-requires : goal.field_from-bases-requires
-field_from-bases-requires c = let l = c.args.line.now in
-    let f = read l c.fields_of-fields.result c.fields_of-fields.ensures in
-    let ten = readable_ten l c.requires.0 in
-    omega (arith, field_within l 3 ten (lit< tt))
-
-pub field_from-alt-requires : goal.field_from-alt-requires
-field_from-alt-requires c = let l = c.args.line.now in
-    let f = read l c.fields_of-fields.result c.fields_of-fields.ensures in
-    let ten = readable_ten l c.requires.0 in
-    omega (arith, field_within l 4 ten (lit< tt))
-
-pub field_from-requires : goal.field_from-requires
-field_from-requires c = let l = c.args.line.now in
-    let f = read l c.fields_of-fields.result c.fields_of-fields.ensures in
-    let ten = readable_ten l c.requires.0 in
-    omega (arith, field_within l 9 ten (lit< tt))
-
-pub overflow_add-at : goal.overflow_add-at
-overflow_add-at c = let l = c.args.line.now in
-    let f = read l c.fields_of-fields.result c.fields_of-fields.ensures in
-    let ten = readable_ten l c.requires.0 in
-    omega (arith, field_within l 4 ten (lit< tt))
-
-pub second_part-second-requires : goal.second_part-second-requires
-second_part-second-requires c = let l = c.args.line.now in
-    let f = read l c.fields_of-fields.result c.fields_of-fields.ensures in
-    let ten = readable_ten l c.requires.0 in
-    let alt : c.field_from-alt.result.now ≡ field 4 l = cc f.alt in
-    let long : length c.field_from-alt.result.now ≡ until TAB (drop (field_at 4 l) l) = rw alt (field_length l (field_at 4 l)) in
-    let within = until_within TAB l (field_at 4 l) in
-    (omega (arith, until_within COMMA c.field_from-alt.result.now 0), omega (arith, field_within l 4 ten (lit< tt)))
+pub overflow_add-alt_at : goal.overflow_add-alt_at
+overflow_add-alt_at c = omega (arith, alt_within c.record_on-record.result, ap length c.record_on-record.ensures)
 
 pub overflow_add-result : goal.overflow_add-result
-overflow_add-result c = let l = c.args.line.now in
-    let f = read l c.fields_of-fields.result c.fields_of-fields.ensures in
-    let ten = readable_ten l c.requires.0 in
-    omega (arith, field_within l 3 ten (lit< tt))
+overflow_add-result c = omega (arith, reference_within c.record_on-record.result, ap length c.record_on-record.ensures)
 
 pub overflow_add-result-2 : goal.overflow_add-result-2
-overflow_add-result-2 c = let l = c.args.line.now in
-    let f = read l c.fields_of-fields.result c.fields_of-fields.ensures in
-    let ten = readable_ten l c.requires.0 in
-    omega (arith, field_within l 4 ten (lit< tt))
+overflow_add-result-2 c = omega (
+  arith,
+  alt_within c.record_on-record.result,
+  ap length c.record_on-record.ensures,
+  ap length c.alt-alt.ensures,
+  until_le COMMA c.alt-alt.result.now,
+)
+
+pub overflow_add-result-3 : goal.overflow_add-result-3
+overflow_add-result-3 c = omega (
+  arith,
+  alt_within c.record_on-record.result,
+  ap length c.record_on-record.ensures,
+  ap length c.alt-alt.ensures,
+  until_le COMMA c.alt-alt.result.now,
+)
+
+pub overflow_add-end : goal.overflow_add-end
+overflow_add-end c = omega (arith, until_le COMMA c.alt-alt.result.now)
 
 pub bounds-genotype-0 : goal.bounds-genotype-0
-bounds-genotype-0 c = let c8 = c in
-    let w = copies_read c8.args.line.now (readable_right c8.args.line.now c8.requires.0)
-    (sample_read c8.args.line.now c8.fields_of-fields.ensures c.field_from.ensures
-    c.genotype_of-genotype.ensures) in rw w.long (lit< tt)
+bounds-genotype-0 c = let l = c.args.line.now in
+    let w = copies_read l (readable_right l c.requires.0) (c.genotype-genotype.ensures ∙ ap genotype_on c.record_on-record.ensures) in
+    rw w.long (lit< tt)
 
 pub overflow_sub-result : goal.overflow_sub-result
-overflow_sub-result c = let c8 = c in
-    (copies_read c8.args.line.now (readable_right c8.args.line.now c8.requires.0)
-    (sample_read c8.args.line.now c8.fields_of-fields.ensures c.field_from.ensures
-    c.genotype_of-genotype.ensures)).first
-
-pub overflow_cast-result : goal.overflow_cast-result
-overflow_cast-result c = omega (arith, c.shared_slice_known-2-1.given 0)
+overflow_sub-result c = let l = c.args.line.now in
+    (copies_read l (readable_right l c.requires.0) (c.genotype-genotype.ensures ∙ ap genotype_on c.record_on-record.ensures)).first
 
 pub bounds-genotype-2 : goal.bounds-genotype-2
-bounds-genotype-2 c = let c8 = c in
-    let w = copies_read c8.args.line.now (readable_right c8.args.line.now c8.requires.0)
-    (sample_read c8.args.line.now c8.fields_of-fields.ensures c.field_from.ensures
-    c.genotype_of-genotype.ensures) in rw w.long (lit< tt)
+bounds-genotype-2 c = let l = c.args.line.now in
+    let w = copies_read l (readable_right l c.requires.0) (c.genotype-genotype.ensures ∙ ap genotype_on c.record_on-record.ensures) in
+    rw w.long (lit< tt)
 
 pub overflow_sub-result-2 : goal.overflow_sub-result-2
-overflow_sub-result-2 c = let c8 = c in
-    (copies_read c8.args.line.now (readable_right c8.args.line.now c8.requires.0)
-    (sample_read c8.args.line.now c8.fields_of-fields.ensures c.field_from.ensures
-    c.genotype_of-genotype.ensures)).last
-
-pub overflow_cast-result-2 : goal.overflow_cast-result-2
-overflow_cast-result-2 c = omega (arith, c.shared_slice_known-3-1.given 2)
+overflow_sub-result-2 c = let l = c.args.line.now in
+    (copies_read l (readable_right l c.requires.0) (c.genotype-genotype.ensures ∙ ap genotype_on c.record_on-record.ensures)).last
 
 pub returns : goal.returns
-returns c = let c8 = c in
-    let l = c8.args.line.now in
-    let f = read l c8.fields_of-fields.result c8.fields_of-fields.ensures in
-    entry_is l c8.args.at
-    c8.pos_on-pos.ensures
-    f.reference
-    c8.field_from-bases.ensures
-    f.alt
-    c.field_from-alt.ensures
-    c.find-end.ensures
-    c.second_part-second.ensures
+returns c = let at = c.args.at in
+    let r = c.record_on-record.result in
+    let e = c.record_on-record.ensures in
+    let f = read r.line.now r.fields r.read in
+    entry_is c.args.line.now at
+    (c.pos.ensures ∙ ap pos_on e)
+    (ap (λ (a : ℕ). at + a) f.reference ∙ ap (λ (l : List ℕ). at + field_at 3 l) e)
+    (c.reference.ensures ∙ ap (field 3) e)
+    (ap (λ (a : ℕ). at + a) f.alt ∙ ap (λ (l : List ℕ). at + field_at 4 l) e)
+    (c.alt-alt.ensures ∙ ap (field 4) e)
+    (omega arith)
+    c.saturating_sub.ensures
     c.alt_count.ensures
-    (sample_read l c8.fields_of-fields.ensures c.field_from.ensures c.genotype_of-genotype.ensures)
+    (c.genotype-genotype.ensures ∙ ap genotype_on e)

@@ -1,11 +1,8 @@
--- `vcf::entry::record_at` meets its contract. The loop's invariant: `left` lines behind `at` is where record i begins. The measure is `left`.
--- Assumes nothing.
+-- `vcf::entry::record_at` meets its contract. The loop's invariant: as many lines as are left, behind `at`, record i begins. Assumes nothing.
 use mathlib.Core.Path.{◌≡◌}
+use Prim.Native.Nat.{◌-◌}
 use Rattle.vcf.specs.Entry.{skip_lines, record_at}
 use Rattle.vcf.proofs.entry.record_at.Given as goal
 
-abbrev pub invariant-loop-left : goal.invariant-loop-left
-invariant-loop-left l = skip_lines l.left l.text l.at ≡ record_at l.text l.i
-
-abbrev pub decreases-loop-left : goal.decreases-loop-left
-decreases-loop-left l = l.left
+abbrev pub invariant-loop : goal.invariant-loop
+invariant-loop l = skip_lines (l.i - l.counter) l.text l.at ≡ record_at l.text l.i
