@@ -1,7 +1,18 @@
 -- Each contract determines its result: any two results that it allows for the same arguments are equal.
 -- None of these functions is lent anything that it can write; those over lent records are in LentDetermines.
 -- Assumes nothing.
-use mathlib.Core.Path.{sym, ◌∙◌}
+use mathlib.Core.List.{List}
+use mathlib.Core.Path.{◌≡◌, refl, sym, ap, ◌∙◌}
+use native.Mathlib.Omega.{arith}
+use lib.ListN.{length, get_or, drop}
+use Rattle.std.proofs.Common.{Option, None, Some}
+use Rattle.std.specs.Iterator.{YieldsFirst}
+use Rattle.clusters.specs.declared.item.Item.{Item}
+use Rattle.clusters.specs.declared.merged.Merged.{Merged}
+use Rattle.clusters.specs.declared.plan.Cluster.{Cluster}
+use Rattle.clusters.specs.declared.plan.Clusters.{Clusters}
+use Rattle.clusters.specs.Items.{items_left}
+use Rattle.clusters.specs.Walk.{clusters_left}
 use Rattle.bases.proofs.Determines.{OneResult}
 use Rattle.clusters.proofs.cluster.next_cluster.Kinds as next-cluster-kinds
 use Rattle.clusters.proofs.cluster.next_cluster.Reads as next_cluster
@@ -23,10 +34,6 @@ use Rattle.clusters.proofs.heads.start_heads.Kinds as start-heads-kinds
 use Rattle.clusters.proofs.heads.start_heads.Reads as start-heads
 use Rattle.clusters.proofs.item.size_of.Kinds as size-of-kinds
 use Rattle.clusters.proofs.item.size_of.Reads as type_size
-use Rattle.clusters.proofs.plan.first_walk.Kinds as first-walk-kinds
-use Rattle.clusters.proofs.plan.first_walk.Reads as first_walk
-use Rattle.clusters.proofs.plan.next_walk.Kinds as next-walk-kinds
-use Rattle.clusters.proofs.plan.next_walk.Reads as next-walk
 
 pub next_cluster_determines : OneResult 3 next-cluster-kinds.ps next-cluster-kinds.r next_cluster.Post
 next_cluster_determines κs a z z' e e' p q = p ∙ sym q
@@ -58,8 +65,24 @@ start_heads_determines κs a z z' e e' p q = p ∙ sym q
 pub size_of_determines : OneResult 0 size-of-kinds.ps size-of-kinds.r type_size.Post
 size_of_determines κs a z z' e e' p q = p ∙ sym q
 
-pub first_walk_determines : OneResult 3 first-walk-kinds.ps first-walk-kinds.r first_walk.Post
-first_walk_determines κs a z z' e e' p q = p ∙ sym q
+-- Two answers of an iterator at one list of what is left are equal, and leave the same.
+pub first_determines : {S A : Type 0} (rest : S → List A) (s : S) (o o' : Option A) (t t' : S) → YieldsFirst rest s o t → YieldsFirst rest s o' t' → (o ≡ o') × (rest t ≡ rest t')
+first_determines rest s None None t t' e f = (refl, e.1 ∙ sym f.1)
+first_determines rest s None (Some y) t t' e f = absurd (omega (arith, ap length (sym e.0 ∙ f)))
+first_determines rest s (Some x) None t t' e f = absurd (omega (arith, ap length (sym f.0 ∙ e)))
+first_determines {S} {A} rest s (Some x) (Some y) t t' e f = let m = sym e ∙ f in (ap (λ (l : List A). Some (get_or l 0 x)) m, ap (drop 1) m)
 
-pub next_walk_determines : OneResult 3 next-walk-kinds.ps next-walk-kinds.r next-walk.Post
-next_walk_determines κs a z z' e e' p q = p ∙ sym q
+-- Any two walks that the contract of `all_clusters` allows have the same clusters left,
+pub all_clusters_determines : (ps : List Cluster) (w w' : Clusters) → clusters_left w ≡ ps → clusters_left w' ≡ ps → clusters_left w ≡ clusters_left w'
+all_clusters_determines ps w w' e f = e ∙ sym f
+
+-- and any two answers that the contract of `next` allows for a walk are equal, and leave the same clusters.
+pub next_determines : (w : Clusters) (o o' : Option Cluster) (v v' : Clusters) → YieldsFirst clusters_left w o v → YieldsFirst clusters_left w o' v' → (o ≡ o') × (clusters_left v ≡ clusters_left v')
+next_determines w o o' v v' e f = first_determines clusters_left w o o' v v' e f
+
+-- The same of walks over entries in merged order.
+pub merged_from_determines : (is : List Item) (w w' : Merged) → items_left w ≡ is → items_left w' ≡ is → items_left w ≡ items_left w'
+merged_from_determines is w w' e f = e ∙ sym f
+
+pub next_merged_determines : (w : Merged) (o o' : Option Item) (v v' : Merged) → YieldsFirst items_left w o v → YieldsFirst items_left w o' v' → (o ≡ o') × (items_left v ≡ items_left v')
+next_merged_determines w o o' v v' e f = first_determines items_left w o o' v v' e f

@@ -6,14 +6,12 @@
 --     source_cut                where source document 000 allows a cut, so does this rule
 --     stop, stop_ends, current_of, current_begin, current_more
 --                               what is kept of a cluster: the largest end and the four sums over its items, one item more at a time
---     largest_new, largest_old, more_first, more_second
---                               one item more: which end is the largest, and the sums by its list
 --     cut_right                 where the rule cuts behind a cluster, matching may cut
 -- Assumes nothing.
 use mathlib.Core.Bool.{Bool, true, false, beq, not, ◌&&◌}
 use mathlib.Core.List.{List, [], ◌∷◌, ◌++◌}
 use mathlib.Core.Logic.{◌↔◌, ◌⊎◌, inl, inr, ⊎_elim}
-use mathlib.Core.Path.{◌≡◌, refl, ap}
+use mathlib.Core.Path.{◌≡◌, refl}
 use Prim.Native.Nat.{ℕ, ◌+◌, ◌-◌, ◌≤◌, ◌<◌, max}
 use native.Mathlib.Decide.{ℕ_discrete}
 use native.Mathlib.Omega.{arith}
@@ -30,7 +28,6 @@ use Rattle.donors.specs.Rules.{Rules, list1, list2}
 use Rattle.donors.proofs.PartLaws.{part_length}
 use Rattle.matching.specs.Cut.{Cut}
 use Rattle.clusters.specs.declared.gap.Current.{Current}
-use Rattle.clusters.specs.declared.gap.Size.{Size}
 use Rattle.clusters.specs.Gap.{size_of, more, begin, reach_of, gap_cuts?, cut?}
 
 module _ (R : List ℕ) (g : ℕ) (b p : Place) where
@@ -101,25 +98,6 @@ module _ (R : List ℕ) (c : Current) (p : Place) where
 pub cut_read : (R : List ℕ) (c : Current) (p : Place) {g : ℕ} {t : Bool} → p.0 ≤ length R → c.b.0 ≤ p.0
     → g ≡ reach_of c → t ≡ any_period? g (part R c.b.0 p.0) → not t ≡ cut? R c p
 cut_read R c p h k eg et = let e = cut_test R c p h k in cc
-
-pub largest_new : (b d : Place) → b.0 < d.0 → d ≡ record { 0 = max b.0 d.0 }
-largest_new b d h = let e : d.0 ≡ max b.0 d.0 = omega arith in ap (λ (n : ℕ). record { 0 = n }) e
-
-pub largest_old : (b d : Place) → d.0 ≤ b.0 → b ≡ record { 0 = max b.0 d.0 }
-largest_old b d h = let e : b.0 ≡ max b.0 d.0 = omega arith in ap (λ (n : ℕ). record { 0 = n }) e
-
-module _ (c : Current) (z : Size) (m : Place) (e : m ≡ record { 0 = max c.b.0 z.end.0 }) where
-  pub more_first : z.side ≡ true → record { b = m; a1 = c.a1 + z.shrink; b1 = c.b1 + z.grow; a2 = c.a2; b2 = c.b2 } ≡ more c z
-  more_first s =
-      let x : c.a2 + 0 ≡ c.a2 = omega arith in
-      let y : c.b2 + 0 ≡ c.b2 = omega arith in
-      rw (s, x, y, e)
-
-  pub more_second : z.side ≡ false → record { b = m; a1 = c.a1; b1 = c.b1; a2 = c.a2 + z.shrink; b2 = c.b2 + z.grow } ≡ more c z
-  more_second s =
-      let x : c.a1 + 0 ≡ c.a1 = omega arith in
-      let y : c.b1 + 0 ≡ c.b1 = omega arith in
-      rw (s, x, y, e)
 
 module _ {X C H : Type 0} (𝓡 : Rules X C H) where
   -- The largest end.

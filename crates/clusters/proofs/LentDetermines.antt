@@ -33,21 +33,21 @@ States T contract post =
 
 abbrev pub Filled : Relation fill-plan.ended
 Filled κs a z e =
-    (z ≡ length (plan_of (bases_of a.0.now) a.1.0.now a.1.1.0.now))
-    × (e.1.1.1.0.now ≡ put a.1.1.1.0.now 0 (plan_of (bases_of a.0.now) a.1.0.now a.1.1.0.now))
+    (z ≡ length (plan_of (bases_of a.0.reference.now) a.0.first.now a.0.second.now))
+    × (e.1.0.now ≡ put a.1.0.now 0 (plan_of (bases_of a.0.reference.now) a.0.first.now a.0.second.now))
 
 pub fill_plan_states : States fill-plan.ended (λ M 𝓤 𝓛. fill-plan.clauses 𝓛) Filled
 fill_plan_states M 𝓤 𝓛 mem run κs a g z e = refl
 
-pub fill_plan_determines : (κs : Lfts 4) (a : Args fill-plan.signature κs) (z z' : Res fill-plan.signature κs) (e e' : AtExit fill-plan.ended κs)
-    → Filled κs a z e → Filled κs a z' e' → (z ≡ z') × (e.1.1.1.0.now ≡ e'.1.1.1.0.now)
+pub fill_plan_determines : (κs : Lfts 2) (a : Args fill-plan.signature κs) (z z' : Res fill-plan.signature κs) (e e' : AtExit fill-plan.ended κs)
+    → Filled κs a z e → Filled κs a z' e' → (z ≡ z') × (e.1.0.now ≡ e'.1.0.now)
 fill_plan_determines κs a z z' e e' p q = (p.0 ∙ sym q.0, p.1 ∙ sym q.1)
 
 abbrev pub Judged : Relation is_plan.ended
-Judged κs a z e = z ≡ is_plan? (plan_of (bases_of a.0.now) a.1.0.now a.1.1.0.now) a.1.1.1.0.now
+Judged κs a z e = z ≡ is_plan? (plan_of (bases_of a.0.reference.now) a.0.first.now a.0.second.now) a.1.0.now
 
 pub is_plan_states : States is_plan.ended (λ M 𝓤 𝓛. is_plan.clauses 𝓛) Judged
 is_plan_states M 𝓤 𝓛 mem run κs a g z e = refl
 
-pub is_plan_determines : (κs : Lfts 4) (a : Args is_plan.signature κs) (z z' : Res is_plan.signature κs) (e e' : AtExit is_plan.ended κs) → Judged κs a z e → Judged κs a z' e' → z ≡ z'
+pub is_plan_determines : (κs : Lfts 2) (a : Args is_plan.signature κs) (z z' : Res is_plan.signature κs) (e e' : AtExit is_plan.ended κs) → Judged κs a z e → Judged κs a z' e' → z ≡ z'
 is_plan_determines κs a z z' e e' p q = p ∙ sym q

@@ -2,23 +2,18 @@
 --     plan_few                           no more clusters than entries
 --     same_cluster, is_plan              the tests in words: the same record; the first records given, as many as there are clusters, are
 --                                        the plan
---     is_plan_none, is_plan_next, is_plan_more, is_plan_all
---                                        judged up to no record, up to one more (by one test, and by the code's two), and up to the last
---     fill_none, fill_next, fill_all     written up to no record, up to one more, and up to the last
---     fill_length                        the lent records stay as many
+--     judged_all, judged_same, judged_other
+--                                        the records that are left, judged by the records given that are left: none is left; the same
+--                                        record is next, or another
 -- Assumes nothing.
-use mathlib.Core.Bool.{Bool, true, false, ◌&&◌}
+use mathlib.Core.Bool.{Bool, true, false}
 use mathlib.Core.List.{List, [], ◌∷◌}
 use mathlib.Core.Logic.{◌↔◌}
-use mathlib.Core.Path.{◌≡◌, refl, sym, ap, ap₂, ◌∙◌}
-use Prim.Native.Nat.{ℕ, zero, suc, ◌+◌, ◌≤◌, ◌<◌}
-use native.Mathlib.Numerals.{add-one}
+use mathlib.Core.Path.{◌≡◌, refl, sym, ap, ap₂}
+use Prim.Native.Nat.{ℕ, suc, ◌≤◌}
 use native.Mathlib.Omega.{arith}
 use lib.Dec.{T, eqb, eqb→eq, eqb_refl}
-use lib.ListN.{length, get_or, set, take, drop}
-use lib.Seq.{length-take-le, take-length, take-suc}
-use Rattle.bases.specs.Put.{put}
-use Rattle.bases.proofs.PutLaws.{put_length, put_none, put_set, put_more}
+use lib.ListN.{length, get_or, take, drop}
 use Rattle.bases.proofs.TestLaws.{both}
 use Rattle.donors.specs.Choice.{card_rules}
 use Rattle.donors.specs.Rules.{Rules}
@@ -86,56 +81,16 @@ is_plan (c ∷ cs) (d ∷ given) =
       λ e. t.1 (s.1 (sym (ap (λ (l : List Cluster). get_or l 0 d) e)), i.1 (ap (drop 1) e)),
     )
 
-and_true : (t : Bool) → t ≡ t && true
-and_true true = refl
-and_true false = refl
-
-pub and_and : (s t u : Bool) → (s && t) && u ≡ s && (t && u)
-and_and true t u = refl
-and_and false t u = refl
-
-pub is_plan_none : (p given : List Cluster) → is_plan? (take 0 p) given ≡ true
+-- The records that are left, judged by the records given that are left.
+pub judged_all : {left : List Cluster} (given : List Cluster) → left ≡ [] → is_plan? left given ≡ true
 unfolding is_plan?
-is_plan_none p given = refl
+judged_all given e = rw e
 
-module _ (d : Cluster) where
-  pub is_plan_next : (k : ℕ) (p given : List Cluster) → k < length p → k < length given
-      → is_plan? (take k p) given && same_cluster? (get_or p k d) (get_or given k d) ≡ is_plan? (take (k + 1) p) given
+module _ {left given cs ds : List Cluster} {c d : Cluster} (e : left ≡ c ∷ cs) (f : given ≡ d ∷ ds) where
+  pub judged_same : same_cluster? c d ≡ true → is_plan? left given ≡ is_plan? cs ds
   unfolding is_plan?
-  is_plan_next k p given h l = rw (add-one k) (go k p given h l)
-    where
-      go : (k : ℕ) (p given : List Cluster) → k < length p → k < length given
-          → is_plan? (take k p) given && same_cluster? (get_or p k d) (get_or given k d) ≡ is_plan? (take (suc k) p) given
-      go k [] given h l = absurd (omega arith)
-      go k (c ∷ p) [] h l = absurd (omega arith)
-      go zero (c ∷ p) (g ∷ given) h l = and_true (same_cluster? c g)
-      go (suc k) (c ∷ p) (g ∷ given) h l =
-          and_and (same_cluster? c g) (is_plan? (take k p) given) (same_cluster? (get_or p k d) (get_or given k d))
-          ∙ ap (λ (t : Bool). same_cluster? c g && t) (go k p given (omega arith) (omega arith))
+  judged_same h = rw (e, f, h)
 
-  -- The same as the code tests it, where t says of the first k and c is the plan's record k.
-  pub is_plan_more : (t : Bool) (c : Cluster) (k : ℕ) (p given : List Cluster) → t ≡ is_plan? (take k p) given → c ≡ get_or p k d → k < length p → k < length given
-      → (t && eqb c.first (get_or given k d).first) && eqb c.count (get_or given k d).count ≡ is_plan? (take (k + 1) p) given
-  is_plan_more t c k p given e f h l =
-      let g = get_or given k d in
-      and_and t (eqb c.first g.first) (eqb c.count g.count) ∙ rw (e, f) (is_plan_next k p given h l)
-
-pub is_plan_all : (p given : List Cluster) → is_plan? (take (length p) p) given ≡ is_plan? p given
-is_plan_all p given = ap (λ (q : List Cluster). is_plan? q given) (take-length p)
-
-module _ {A : Type 0} (p lent : List A) (room : length p ≤ length lent) where
-  pub fill_none : lent ≡ put lent 0 (take 0 p)
-  fill_none = sym (put_none lent 0)
-
-  pub fill_length : (k : ℕ) → k ≤ length p → length (put lent 0 (take k p)) ≡ length lent
-  fill_length k h = put_length lent 0 (omega arith) (take k p) (omega (arith, length-take-le k p h))
-
-  pub fill_next : (k : ℕ) (d : A) → k < length p → set (put lent 0 (take k p)) k (get_or p k d) ≡ put lent 0 (take (k + 1) p)
-  fill_next k d h =
-      let was = put lent 0 (take k p) in
-      let e : k ≡ 0 + length (take k p) = omega (arith, length-take-le k p (omega arith)) in
-      let one = put_set was k (get_or p k d) (omega (arith, fill_length k (omega arith))) in
-      put_more lent 0 (take k p) was k (get_or p k d ∷ []) (set was k (get_or p k d)) (omega arith) e refl one ∙ rw (add-one k, take-suc p k d h)
-
-  pub fill_all : put lent 0 (take (length p) p) ≡ put lent 0 p
-  fill_all = ap (put lent 0) (take-length p)
+  pub judged_other : same_cluster? c d ≡ false → is_plan? left given ≡ false
+  unfolding is_plan?
+  judged_other h = rw (e, f, h)

@@ -1,6 +1,7 @@
 pub mod CardClusters
 pub mod ClusterLaws
 pub mod Determines
+pub mod Filling
 pub mod FirstLaws
 pub mod GapLaws
 pub mod HeadsLaws
@@ -12,6 +13,4 @@ pub mod NextLaws
 pub mod PlanLaws
 pub mod RoomLaws
 pub mod SoundLaws
-pub mod StepLaws
-pub mod Steps
 pub mod WalkLaws

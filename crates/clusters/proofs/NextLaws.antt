@@ -1,5 +1,6 @@
 -- A walk from cluster to cluster over two accepted texts.
 --     accepted_ready                what the walk leans on is so at the first records of accepted texts
+--     start_fits                    the entries of two texts can be counted in 32 bits
 --     left_le, count_le, count_some     a cluster has no more entries than are left, and at least one
 --     found_left                    behind it so many fewer are left
 --     ready_passed, ready_found     it stays so behind the next entries, and behind the next cluster
@@ -9,7 +10,7 @@
 use mathlib.Core.Bool.{Bool, true, false}
 use mathlib.Core.List.{List, [], ◌∷◌, map}
 use mathlib.Core.Path.{◌≡◌, refl, sym, ap, ◌∙◌}
-use Prim.Native.Nat.{ℕ, zero, suc, ◌+◌, ◌-◌, ◌≤◌}
+use Prim.Native.Nat.{ℕ, zero, suc, ◌+◌, ◌-◌, ◌≤◌, ◌<◌, ◌^◌}
 use native.Mathlib.Omega.{arith}
 use lib.ListN.{length, drop, length-drop}
 use Rattle.donors.specs.Choice.{Variant, card_rules}
@@ -26,7 +27,7 @@ use Rattle.clusters.specs.Item.{variant}
 use Rattle.clusters.specs.Plan.{first_of, plan, records_from, card_plan}
 use Rattle.clusters.proofs.CardClusters.{map_length}
 use Rattle.clusters.proofs.FirstLaws.{left, first_none, first_cut, first_more, first_plan, plan_step}
-use Rattle.clusters.proofs.HeadsLaws.{items_none, items_step, ready_moved, passed_items}
+use Rattle.clusters.proofs.HeadsLaws.{items_none, items_step, items_few, ready_moved, passed_items}
 use Rattle.clusters.proofs.SoundLaws.{entries_sound}
 use Rattle.clusters.proofs.WalkLaws.{variants_step, next, behind}
 
@@ -59,6 +60,9 @@ drop_map f (suc n) [] = refl
 drop_map f (suc n) (x ∷ xs) = drop_map f n xs
 
 module _ (reference first second : List ℕ) where
+  pub start_fits : Ready reference first second (start_heads first second) → 0 + length (items_from first second (start_heads first second)) < 2 ^ 32
+  start_fits r = omega (arith, items_few first second (start_heads first second), r.ready1.short, r.ready2.short)
+
   pub ready_passed : (n : ℕ) (h : Heads) → Ready reference first second h → n ≤ length (items_from first second h) → Ready reference first second (passed first second n h)
   unfolding passed
   ready_passed zero h r k = r

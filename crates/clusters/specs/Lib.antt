@@ -1,7 +1,9 @@
 pub mod Gap
 pub mod Heads
 pub mod Item
+pub mod Items
 pub mod Lent
 pub mod Merged
 pub mod Plan
+pub mod ReadyOnce
 pub mod Walk

@@ -14,7 +14,8 @@ pub struct Found {
     pub heads: Heads,
 }
 
-// The cluster that begins with the next entry. There is one.
+// The cluster that begins with the next entry. There is one. No `Lists` is asked for, which says more: that the lists can be read from
+// their first records on.
 pub fn next_cluster(reference: &[u8], first: &[u8], second: &[u8], heads: Heads) -> Found
     requires { (done? first.now second.now heads ≡ false)
         × Ready (bases_of reference.now) first.now second.now heads }
@@ -24,6 +25,7 @@ pub fn next_cluster(reference: &[u8], first: &[u8], second: &[u8], heads: Heads)
     let mut current = begin(size_of(item));
     let mut at = after(first, second, heads, item.side);
     let mut count: usize = 1;
+    // By cursors and not by `Merged`, which is no plainer: what is told are the cursors in front of the entry that is cut.
     while !is_done(first, second, at) {
         let next = next_item(first, second, at);
         let size = size_of(next);

@@ -7,7 +7,7 @@ use bases::place::Place;
 use bases::reference::has_any_period;
 
 // What the rule reads of an entry: is it of list 1, where its span starts and ends, and by how much its alleles are shorter or longer than
-// REF.
+// REF. `side` is a bool as `first` in donors' Row is, and for the reason that stands there.
 #[derive(Clone, Copy)]
 pub struct Size {
     pub side: bool,
@@ -32,24 +32,21 @@ pub fn more(current: Current, size: Size) -> Current
     requires { Adds current size }
     ensures { result ≡ more current size }
 {
-    let largest = current.b;
-    let end = size.end;
-    let b = if largest.0 < end.0 { end } else { largest };
+    let b = Place(current.b.0.max(size.end.0));
     if size.side {
-        return Current {
+        Current {
             b,
             a1: current.a1 + size.shrink,
             b1: current.b1 + size.grow,
-            a2: current.a2,
-            b2: current.b2,
-        };
-    }
-    Current {
-        b,
-        a1: current.a1,
-        b1: current.b1,
-        a2: current.a2 + size.shrink,
-        b2: current.b2 + size.grow,
+            ..current
+        }
+    } else {
+        Current {
+            b,
+            a2: current.a2 + size.shrink,
+            b2: current.b2 + size.grow,
+            ..current
+        }
     }
 }
 
@@ -79,9 +76,7 @@ fn reach_of(current: Current) -> usize
         × (current.b2 + current.a1 < 2 ^ 64) }
     ensures { result ≡ reach_of current }
 {
-    let one = current.b1 + current.a2;
-    let other = current.b2 + current.a1;
-    if one < other { other } else { one }
+    (current.b1 + current.a2).max(current.b2 + current.a1)
 }
 
 // Is the current cluster cut before an entry that starts at `start`? A gap no longer than g has the period g, and where g is 0 no period is
@@ -92,12 +87,5 @@ pub fn is_cut(reference: &[u8], current: Current, start: Place) -> bool
         × (current.b2 + current.a1 < 2 ^ 64) }
     ensures { result ≡ cut? (bases_of reference.now) current start }
 {
-    let b = current.b;
-    let from = b.0;
-    let to = start.0;
-    if to < from {
-        return false;
-    }
-    let g = reach_of(current);
-    !has_any_period(reference, from, to, g)
+    current.b.0 <= start.0 && !has_any_period(reference, current.b.0, start.0, reach_of(current))
 }

@@ -6,7 +6,7 @@ use crate::gap::Size;
 use bases::place::{Place, place_of};
 use vcf::entry::Entry;
 
-// An entry with the list that it is of; `side`: of list 1.
+// An entry with the list that it is of; `side`: of list 1, a bool as `first` in donors' Row, and for the reason that stands there.
 #[derive(Clone, Copy)]
 pub struct Item {
     pub side: bool,
@@ -17,21 +17,11 @@ pub struct Item {
 fn length_of(entry: Entry, k: usize) -> usize
     ensures { result ≡ len_of entry k }
 {
-    let part = if k == 0 {
-        entry.reference
-    } else if k == 1 {
-        entry.first
-    } else {
-        entry.second
-    };
-    part.len
-}
-
-// max(0, a - b).
-fn excess(a: usize, b: usize) -> usize
-    ensures { result ≡ a - b }
-{
-    if b < a { a - b } else { 0 }
+    match k {
+        0 => entry.reference.len,
+        1 => entry.first.len,
+        _ => entry.second.len,
+    }
 }
 
 // What the gap rule reads of an entry. Its POS is one, and its span ends where a number can say it.
@@ -41,19 +31,15 @@ pub fn size_of(item: Item) -> Size
     ensures { result ≡ item_size item }
 {
     let entry = item.entry;
-    let pos = entry.pos;
-    let start = place_of(pos);
-    let span = entry.reference;
-    let len = span.len;
+    let start = place_of(entry.pos);
+    let len = entry.reference.len;
     let len0 = length_of(entry, entry.copy0);
     let len1 = length_of(entry, entry.copy1);
-    let shorter = if len0 < len1 { len0 } else { len1 };
-    let longer = if len0 < len1 { len1 } else { len0 };
     Size {
         side: item.side,
         start,
         end: Place(start.0 + len),
-        shrink: excess(len, shorter),
-        grow: excess(longer, len),
+        shrink: len.saturating_sub(len0.min(len1)),
+        grow: len0.max(len1).saturating_sub(len),
     }
 }

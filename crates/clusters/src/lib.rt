@@ -6,4 +6,6 @@ pub mod cluster;
 pub mod gap;
 pub mod heads;
 pub mod item;
+pub mod lists;
+pub mod merged;
 pub mod plan;

@@ -11,20 +11,19 @@
 --                         those do not agree: they have not; those agree: the walks may go on behind them
 --     beside_less         what is left is less by then
 -- Assumes nothing.
-use mathlib.Core.Bool.{Bool, true, false, not, ◌&&◌}
+use mathlib.Core.Bool.{Bool, true, false, ◌&&◌}
 use mathlib.Core.List.{List}
 use mathlib.Core.Logic.{◌⊎◌, inl, inr}
 use mathlib.Core.Path.{◌≡◌, sym, ap₂, subst, ◌∙◌}
 use Prim.Native.Nat.{ℕ, ◌+◌, ◌-◌, ◌≤◌, ◌<◌, min}
 use native.Mathlib.Omega.{arith}
-use borrow.Author.Tests.{not-true, not-false}
-use lib.Dec.{eqb, ltb, ltb→lt, lt→ltb}
+use lib.Dec.{eqb}
 use lib.ListN.{length}
 use Rattle.bases.specs.Pick.{pick}
 use Rattle.bases.specs.Same.{agree?, same?}
 use Rattle.bases.specs.Stretch.{stretch}
 use Rattle.bases.proofs.LetterLaws.{bases_length}
-use Rattle.bases.proofs.TestLaws.{of_true, of_false, both}
+use Rattle.donors.specs.declared.table.Row.{Row}
 use Rattle.donors.specs.declared.walk.Along.{Along}
 use Rattle.donors.specs.Agree.{Ready, ApartOn, one_donor?}
 use Rattle.donors.specs.Apart.{Chain}
@@ -39,24 +38,24 @@ use Rattle.donors.proofs.StandLaws.{Stands, piece_length, left_passed, passed_le
 use Rattle.donors.proofs.WalkLaws.{SoundFor, Goes, with_goes}
 
 -- Both walks stand well, and what is left of the two is equal exactly if the lists have one donor.
-pub record Beside (reference first second t φ : List ℕ) (h : Copy) (n : ℕ) (a b : Along) : Type 0 where
+pub record Beside (reference first second : List ℕ) (t : List Row) (φ : List ℕ) (h : Copy) (n : ℕ) (a b : Along) : Type 0 where
   pub one : Stands reference first t φ list1 h n a
   pub two : Stands reference second t φ list2 h n b
   pub same : one_donor? reference first second t φ h n ≡ same? (left_of reference first t φ list1 h n a) (left_of reference second t φ list2 h n b)
 
 -- How much is left of the two.
-abbrev pub left_long : (reference first second t φ : List ℕ) → Copy → ℕ → Along → Along → ℕ
+abbrev pub left_long : (reference first second : List ℕ) (t : List Row) (φ : List ℕ) → Copy → ℕ → Along → Along → ℕ
 left_long reference first second t φ h n a b = length (left_of reference first t φ list1 h n a) + length (left_of reference second t φ list2 h n b)
 
 -- From walks a and b at the next piece of each, x and y: as much is left, and a base of each piece, or it is the last.
-pub record Onward (reference first second t φ : List ℕ) (h : Copy) (n : ℕ) (a b x y : Along) : Type 0 where
+pub record Onward (reference first second : List ℕ) (t : List Row) (φ : List ℕ) (h : Copy) (n : ℕ) (a b x y : Along) : Type 0 where
   pub beside : Beside reference first second t φ h n x y
   pub some1 : (1 ≤ x.len) ⊎ (n < x.row)
   pub some2 : (1 ≤ y.len) ⊎ (n < y.row)
   pub long : left_long reference first second t φ h n x y ≡ left_long reference first second t φ h n a b
 
 -- what a table that is ready says of the rows of a list
-sound : (reference first second t : List ℕ) (n : ℕ) → Ready reference first second t n → (j : Bool) → SoundFor reference (pick j first second) t j n
+sound : (reference first second : List ℕ) (t : List Row) (n : ℕ) → Ready reference first second t n → (j : Bool) → SoundFor reference (pick j first second) t j n
 sound reference first second t n r j i l e = subst (λ (s : Bool). Sound reference (pick s first second) (row_at t i)) e (r.sound i l)
 
 -- a piece lies in a text or on the reference
@@ -64,7 +63,7 @@ fits_from : (reference text : List ℕ) (own : Bool) (w : ℕ) → length refere
 fits_from reference text true w r p = rw (bases_length text) p
 fits_from reference text false w r p = r
 
-module _ (reference first second t φ : List ℕ) (h : Copy) (n : ℕ) where
+module _ (reference first second : List ℕ) (t : List Row) (φ : List ℕ) (h : Copy) (n : ℕ) where
   -- a list's edits, with its own text
   own : (j : Bool) → edits card_rules j h (variants_from reference first second t 0 n) (choices_from φ 0 n) ≡ edits_in reference (pick j first second) t φ j h 0 (n - 0)
   own j = let e : n - 0 ≡ n = omega arith in rw e (edits_own reference first second t j h (choices_from φ 0 n) 0 n)
@@ -72,7 +71,7 @@ module _ (reference first second t φ : List ℕ) (h : Copy) (n : ℕ) where
   stands_start : ApartOn reference first second t φ h n → (j : Bool) → Stands reference (pick j first second) t φ j h n beginning
   stands_start p j = record { place = omega arith; chain = subst (Chain 0) (own j) (p j); inside = omega arith; last = λ l. absurd (omega arith) }
 
-module _ {reference first second t φ : List ℕ} {h : Copy} {n : ℕ} where
+module _ {reference first second : List ℕ} {t : List Row} {φ : List ℕ} {h : Copy} {n : ℕ} where
   pub beside_start : ApartOn reference first second t φ h n → Beside reference first second t φ h n beginning beginning
   beside_start p = record {
     one = stands_start reference first second t φ h n p list1;
@@ -101,11 +100,8 @@ module _ {reference first second t φ : List ℕ} {h : Copy} {n : ℕ} where
     two : Stands reference second t φ list2 h n y
     two = o.beside.two
 
-    pub beside_last : ltb n x.row && ltb n y.row ≡ true → eqb x.at y.at ≡ one_donor? reference first second t φ h n
-    beside_last e =
-        let z = (both (ltb n x.row) (ltb n y.row)).0 (of_true e) in
-        let k = ltb→lt n x.row z.0 in
-        let l = ltb→lt n y.row z.1 in
+    pub beside_last : n < x.row → n < y.row → eqb x.at y.at ≡ one_donor? reference first second t φ h n
+    beside_last k l =
         let u = one.last k in
         let v = two.last l in
         let f = same_rests reference x.at y.at (omega arith) (omega arith) in
@@ -113,7 +109,7 @@ module _ {reference first second t φ : List ℕ} {h : Copy} {n : ℕ} where
 
     -- the next m bases of both
     module _ {m : ℕ} (k : m ≡ min x.len y.len) where
-      pub beside_none : ltb n x.row && ltb n y.row ≡ false → m ≡ 0 → one_donor? reference first second t φ h n ≡ false
+      pub beside_none : ((n < x.row) × (y.row ≤ n)) ⊎ (x.row ≤ n) → m ≡ 0 → one_donor? reference first second t φ h n ≡ false
       beside_none e z = o.beside.same ∙ same_longer (left_of reference first t φ list1 h n x) (left_of reference second t φ list2 h n y) (go o.some1 o.some2)
         where
           go : (1 ≤ x.len) ⊎ (n < x.row) → (1 ≤ y.len) ⊎ (n < y.row)
@@ -121,7 +117,11 @@ module _ {reference first second t φ : List ℕ} {h : Copy} {n : ℕ} where
           go (inl p) (inl q) f = omega arith
           go (inl p) (inr q) f = omega (arith, left_some reference first t φ list1 h n x one p, left_none reference second t φ list2 h n y two q (omega arith))
           go (inr p) (inl q) f = omega (arith, left_none reference first t φ list1 h n x one p (omega arith), left_some reference second t φ list2 h n y two q)
-          go (inr p) (inr q) f = of_false e ((both (ltb n x.row) (ltb n y.row)).1 (lt→ltb n x.row p, lt→ltb n y.row q))
+          go (inr p) (inr q) f = not_both e
+            where
+              not_both : ((n < x.row) × (y.row ≤ n)) ⊎ (x.row ≤ n) → ⊥
+              not_both (inl u) = omega (arith, u.1)
+              not_both (inr u) = omega arith
 
       pub beside_inside : (x.at + m ≤ length (bases_from reference first x.text)) × (y.at + m ≤ length (bases_from reference second y.text))
       beside_inside = (omega (arith, one.inside), omega (arith, two.inside))
@@ -146,18 +146,18 @@ module _ {reference first second t φ : List ℕ} {h : Copy} {n : ℕ} where
 
       pub beside_stop : {s : Bool}
           → s ≡ agree? (stretch (bases_from reference first x.text) x.at m) (stretch (bases_from reference second y.text) y.at m)
-          → not s ≡ true → one_donor? reference first second t φ h n ≡ false
-      beside_stop {s} u z = piece ∙ rw (sym u ∙ not-true s z)
+          → s ≡ false → one_donor? reference first second t φ h n ≡ false
+      beside_stop u z = piece ∙ rw (sym u ∙ z)
 
       -- the walks behind them
       module _ {a' b' : Along} (e : a' ≡ passed x m) (f : b' ≡ passed y m) where
         pub beside_more : {s : Bool}
             → s ≡ agree? (stretch (bases_from reference first x.text) x.at m) (stretch (bases_from reference second y.text) y.at m)
-            → not s ≡ false → Beside reference first second t φ h n a' b'
-        beside_more {s} u z = rw (e, f) record {
+            → s ≡ true → Beside reference first second t φ h n a' b'
+        beside_more u z = rw (e, f) record {
           one = stands_passed reference first t φ list1 h n x one m (omega arith);
           two = stands_passed reference second t φ list2 h n y two m (omega arith);
-          same = piece ∙ rw (sym u ∙ not-false s z);
+          same = piece ∙ rw (sym u ∙ z);
         }
 
         pub beside_less : (m ≡ 0 → ⊥) → left_long reference first second t φ h n a' b' < left_long reference first second t φ h n a b

@@ -10,12 +10,13 @@ use Prim.Native.Nat.{ℕ, zero, suc, ◌+◌, ◌-◌, ◌≤◌, ◌<◌}
 use native.Mathlib.Omega.{arith}
 use lib.ListN.{get_or}
 use Rattle.bases.specs.Pick.{pick}
+use Rattle.donors.specs.declared.table.Row.{Row}
 use Rattle.donors.specs.Choice.{Copy, chosen?}
 use Rattle.donors.specs.Table.{row_at, choice_of}
 use Rattle.donors.specs.Walk.{takes_row?, next_row}
 use Rattle.donors.proofs.TableLaws.{taken_chosen}
 
-module _ (t φ : List ℕ) (j : Bool) (h : Copy) where
+module _ (t : List Row) (φ : List ℕ) (j : Bool) (h : Copy) where
   pub next_here : (n i : ℕ) → i < n → takes_row? t φ j h i ≡ true → next_row t φ j h i (n - i) ≡ i
   unfolding next_row
   next_here n i l e = let m : n - i ≡ suc (n - (i + 1)) = omega arith in rw (m, e)

@@ -12,6 +12,7 @@ use Prim.Native.Nat.{ℕ, zero, suc, ◌+◌, ◌-◌, ◌≤◌, ◌<◌}
 use native.Mathlib.Omega.{arith}
 use lib.ListN.{get_or}
 use Rattle.bases.specs.Pick.{pick}
+use Rattle.donors.specs.declared.table.Row.{Row}
 use Rattle.donors.specs.Choice.{Choice, Copy, card_rules}
 use Rattle.donors.specs.Donor.{Edit}
 use Rattle.donors.specs.Rules.{put_if, edit_of, edits}
@@ -20,14 +21,14 @@ use Rattle.donors.specs.Walk.{takes_row?, next_row}
 use Rattle.donors.proofs.TableLaws.{row_takes}
 
 -- The edits that n rows from row i on make on copy h as entries of list j, whose text this is.
-abbrev pub edits_in : List ℕ → List ℕ → List ℕ → List ℕ → Bool → Copy → ℕ → ℕ → List Edit
+abbrev pub edits_in : List ℕ → List ℕ → List Row → List ℕ → Bool → Copy → ℕ → ℕ → List Edit
 edits_in reference text t φ j h i n = edits card_rules j h (variants_in reference text t i n) (choices_from φ i n)
 
 -- The edit of row i.
-abbrev pub edit_at : List ℕ → List ℕ → List ℕ → List ℕ → Copy → ℕ → Edit
+abbrev pub edit_at : List ℕ → List ℕ → List Row → List ℕ → Copy → ℕ → Edit
 edit_at reference text t φ h i = edit_of card_rules (variant_of reference text (row_at t i)) (choice_of (get_or φ i 0)) h
 
-module _ (reference text t φ : List ℕ) (j : Bool) (h : Copy) where
+module _ (reference text : List ℕ) (t : List Row) (φ : List ℕ) (j : Bool) (h : Copy) where
   edits_first : (i m : ℕ) → edits_in reference text t φ j h i (suc m) ≡ put_if (takes_row? t φ j h i) (edit_at reference text t φ h i) (edits_in reference text t φ j h (i + 1) m)
   unfolding edits variants_in choices_from
   edits_first i m = rw (row_takes reference text (row_at t i) (choice_of (get_or φ i 0)) j h)
@@ -60,7 +61,7 @@ module _ (reference text t φ : List ℕ) (j : Bool) (h : Copy) where
   pub edits_next : (i n : ℕ) → edits_in reference text t φ j h i (n - i) ≡ edits_in reference text t φ j h (next_row t φ j h i (n - i)) (n - next_row t φ j h i (n - i))
   edits_next i n = edits_within (n - i) i n refl
 
-pub edits_own : (reference first second t : List ℕ) (j : Bool) (h : Copy) (φ : List Choice) (i n : ℕ)
+pub edits_own : (reference first second : List ℕ) (t : List Row) (j : Bool) (h : Copy) (φ : List Choice) (i n : ℕ)
     → edits card_rules j h (variants_from reference first second t i n) φ ≡ edits card_rules j h (variants_in reference (pick j first second) t i n) φ
 unfolding edits variants_from variants_in
 edits_own reference first second t j h φ i zero = refl

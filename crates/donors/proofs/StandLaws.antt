@@ -15,6 +15,7 @@ use lib.ListN.{length, take, drop, length-append, length-drop}
 use lib.Seq.{take-add, drop-drop}
 use Rattle.bases.specs.Stretch.{stretch}
 use Rattle.bases.proofs.StretchLaws.{stretch_length}
+use Rattle.donors.specs.declared.table.Row.{Row}
 use Rattle.donors.specs.declared.walk.Along.{Along}
 use Rattle.donors.specs.Apart.{Chain}
 use Rattle.donors.specs.Choice.{Copy}
@@ -25,13 +26,13 @@ use Rattle.donors.proofs.PartLaws.{rest_split}
 use Rattle.donors.proofs.RowsLaws.{edits_in, edits_past}
 
 -- A walk stands well.
-pub record Stands (reference text t φ : List ℕ) (j : Bool) (h : Copy) (n : ℕ) (c : Along) : Type 0 where
+pub record Stands (reference text : List ℕ) (t : List Row) (φ : List ℕ) (j : Bool) (h : Copy) (n : ℕ) (c : Along) : Type 0 where
   pub place : c.place ≤ length reference
   pub chain : Chain c.place (edits_in reference text t φ j h c.row (n - c.row))
   pub inside : c.at + c.len ≤ length (bases_from reference text c.text)
   pub last : n < c.row → (c.text ≡ false) × (c.at + c.len ≡ length reference) × (c.place ≡ length reference)
 
-module _ (reference text t φ : List ℕ) (j : Bool) (h : Copy) (n : ℕ) where
+module _ (reference text : List ℕ) (t : List Row) (φ : List ℕ) (j : Bool) (h : Copy) (n : ℕ) where
   -- the edits of the rows from row i on
   abbrev rows : ℕ → List Edit
   rows i = edits_in reference text t φ j h i (n - i)

@@ -29,7 +29,7 @@ use Rattle.donors.proofs.StandLaws.{Stands}
 use Rattle.donors.proofs.TableLaws.{allele_puts, taken_side}
 
 -- A walk stands well, and a base of its piece is left, or the piece is the last.
-pub record Ahead (reference text t φ : List ℕ) (j : Bool) (h : Copy) (n : ℕ) (c : Along) : Type 0 where
+pub record Ahead (reference text : List ℕ) (t : List Row) (φ : List ℕ) (j : Bool) (h : Copy) (n : ℕ) (c : Along) : Type 0 where
   pub stands : Stands reference text t φ j h n c
   pub some : (1 ≤ c.len) ⊎ (n < c.row)
 
@@ -53,10 +53,10 @@ unfolding donor_from
 donor_before R a e es = let z : e.start - e.start ≡ 0 = omega arith in rw z
 
 -- The rows of list j are sound, with this text.
-abbrev pub SoundFor : (reference text t : List ℕ) → Bool → ℕ → Type 0
+abbrev pub SoundFor : (reference text : List ℕ) → List Row → Bool → ℕ → Type 0
 SoundFor reference text t j n = (i : ℕ) → i < n → (row_at t i).first ≡ j → Sound reference text (row_at t i)
 
-module _ (reference text t φ : List ℕ) (j : Bool) (h : Copy) (n : ℕ) where
+module _ (reference text : List ℕ) (t : List Row) (φ : List ℕ) (j : Bool) (h : Copy) (n : ℕ) where
   -- the edits of the rows from row i on
   abbrev rows : ℕ → List Edit
   rows i = edits_in reference text t φ j h i (n - i)

@@ -1,54 +1,31 @@
--- A table of entries, as numbers: ten a row. A row says the entry's list (1 or 2), where REF starts, how long REF is, its weight, and for
--- copies 0 and 1 the allele: one number that says whether it takes the entry's span and whether its bytes stand in the text of its list or
--- in the reference, from where on, and how many.
+-- A table of entries. A row says the entry's list, where REF starts, how long REF is, its weight, and for copies 0 and 1 the allele: whether
+-- it takes the entry's span, whether its bytes stand in the text of its list or in the reference, from where on, and how many.
 -- Assumes nothing: these are definitions.
-use Rattle.std.specs.Prelude.{Bool, ◌&&◌, ◌||◌, List, [], ◌∷◌, ℕ, zero, suc, ◌+◌, ◌*◌, ◌≤◌, eqb, leb, length, get_or}
+use Rattle.std.specs.Prelude.{Bool, false, ◌&&◌, List, [], ◌∷◌, ℕ, zero, suc, ◌+◌, ◌≤◌, eqb, length, get_or}
 use Rattle.std.specs.Bool.{beq}
 use Rattle.bases.specs.Letter.{bases_of}
 use Rattle.bases.specs.Pick.{pick}
 use Rattle.bases.specs.Stretch.{stretch}
 use Rattle.donors.specs.declared.table.Allele.{Allele}
 use Rattle.donors.specs.declared.table.Row.{Row}
+use Rattle.donors.specs.declared.table.WhichCopy.{WhichCopy}
+use Rattle.donors.specs.declared.table.WhichCopy.TheVariants.{Copy0, Copy1}
 use Rattle.donors.specs.Choice.{Choice, plus, minus, out, Copy, copy0, copy1, Variant, chosen?, source}
-
--- How many numbers a row has.
-abbrev pub width : ℕ
-width = 10
 
 -- The most entries that a table has: the choices of a cluster are twelve values at most.
 abbrev pub most : ℕ
 most = 12
 
--- Number k of row i.
-abbrev pub number_at : List ℕ → ℕ → ℕ → ℕ
-number_at t i k = get_or t (i * width + k) 0
+-- What is read of a table behind its rows.
+abbrev pub no_allele : Allele
+no_allele = record { room = false; text = false; at = 0; len = 0 }
 
--- What the first number of an allele says: 2 and 3, it takes the entry's span; 1 and 3, its bytes stand in the text.
-abbrev pub has_room? : ℕ → Bool
-has_room? k = leb 2 k
-
-abbrev pub in_text? : ℕ → Bool
-in_text? k = eqb k 1 || eqb k 3
-
--- The allele whose three numbers stand from number k of row i on.
-abbrev pub allele_at : List ℕ → ℕ → ℕ → Allele
-allele_at t i k = record {
-  room = has_room? (number_at t i k);
-  text = in_text? (number_at t i k);
-  at = number_at t i (k + 1);
-  len = number_at t i (k + 2);
-}
+abbrev pub no_row : Row
+no_row = record { first = false; start = 0; len = 0; weight = 0; copy0 = no_allele; copy1 = no_allele }
 
 -- Row i of a table.
-abbrev pub row_at : List ℕ → ℕ → Row
-row_at t i = record {
-  first = eqb (number_at t i 0) 1;
-  start = number_at t i 1;
-  len = number_at t i 2;
-  weight = number_at t i 3;
-  copy0 = allele_at t i 4;
-  copy1 = allele_at t i 7;
-}
+abbrev pub row_at : List Row → ℕ → Row
+row_at t i = get_or t i no_row
 
 -- What the bases of an allele are a stretch of: its list's text, or the reference, which is the list of its bases.
 abbrev pub bases_from : List ℕ → List ℕ → Bool → List ℕ
@@ -72,13 +49,13 @@ variant_of reference text r = record {
 }
 
 -- The entries of the n rows from row i on, each with the text of its list.
-unfoldable pub variants_from : List ℕ → List ℕ → List ℕ → List ℕ → ℕ → ℕ → List Variant
+unfoldable pub variants_from : List ℕ → List ℕ → List ℕ → List Row → ℕ → ℕ → List Variant
 variants_from reference first second t i zero = []
 variants_from reference first second t i (suc n) =
     variant_of reference (pick (row_at t i).first first second) (row_at t i) ∷ variants_from reference first second t (i + 1) n
 
 -- The same, all with one text.
-unfoldable pub variants_in : List ℕ → List ℕ → List ℕ → ℕ → ℕ → List Variant
+unfoldable pub variants_in : List ℕ → List ℕ → List Row → ℕ → ℕ → List Variant
 variants_in reference text t i zero = []
 variants_in reference text t i (suc n) = variant_of reference text (row_at t i) ∷ variants_in reference text t (i + 1) n
 
@@ -91,25 +68,19 @@ unfoldable pub choices_from : List ℕ → ℕ → ℕ → List Choice
 choices_from φ i zero = []
 choices_from φ i (suc n) = choice_of (get_or φ i 0) ∷ choices_from φ (i + 1) n
 
--- The copy of a number: 0, and any other number is copy 1.
-abbrev pub copy_of : ℕ → Copy
-copy_of n = pick (eqb n 0) copy0 copy1
+-- The copy that the code names.
+abbrev pub copy_of : WhichCopy → Copy
+copy_of Copy0 = copy0
+copy_of Copy1 = copy1
 
--- The allele of a row for a copy, as written, and where in the row its numbers begin.
+-- The allele of a row for a copy, as written.
 abbrev pub allele_for : Row → Copy → Allele
 allele_for r copy0 = r.copy0
 allele_for r copy1 = r.copy1
 
-abbrev pub place_for : Copy → ℕ
-place_for copy0 = 4
-place_for copy1 = 7
-
--- The allele that a chosen entry puts on a copy, and where in its row the numbers of that allele begin.
+-- The allele that a chosen entry puts on a copy.
 abbrev pub allele_of : Row → Choice → Copy → Allele
 allele_of r c h = allele_for r (source c h)
-
-abbrev pub place_of : Choice → Copy → ℕ
-place_of c h = place_for (source c h)
 
 -- The entry of a row takes its span on a copy; and for the donor of list j.
 abbrev pub room_at? : Row → Choice → Copy → Bool

@@ -3,6 +3,7 @@
 use Rattle.std.specs.Prelude.{Bool, false, List, ◌++◌, ℕ, zero, suc, ◌+◌, ◌-◌, eqb, leb, ltb, get_or}
 use Rattle.bases.specs.Pick.{pick}
 use Rattle.bases.specs.Stretch.{stretch}
+use Rattle.donors.specs.declared.table.Row.{Row}
 use Rattle.donors.specs.declared.walk.Along.{Along}
 use Rattle.donors.specs.Choice.{Copy, card_rules}
 use Rattle.donors.specs.Donor.{donor_from}
@@ -18,7 +19,7 @@ abbrev pub passed : Along → ℕ → Along
 passed c m = record { row = c.row; place = c.place; text = c.text; at = c.at + m; len = c.len - m }
 
 -- the rows of a table and their choices, for the donor of list j on copy h
-module _ (t φ : List ℕ) (j : Bool) (h : Copy) where
+module _ (t : List Row) (φ : List ℕ) (j : Bool) (h : Copy) where
   -- Row i takes its span.
   abbrev pub takes_row? : ℕ → Bool
   takes_row? i = row_takes? (row_at t i) (choice_of (get_or φ i 0)) j h
@@ -29,7 +30,7 @@ module _ (t φ : List ℕ) (j : Bool) (h : Copy) where
   next_row i (suc m) = pick (takes_row? i) i (next_row (i + 1) m)
 
 -- the same with n rows, over a reference of so many bases
-module _ (t φ : List ℕ) (j : Bool) (h : Copy) (n size : ℕ) where
+module _ (t : List Row) (φ : List ℕ) (j : Bool) (h : Copy) (n size : ℕ) where
   -- The last piece: what is left of the reference from a place on, with no row left.
   abbrev pub last_piece : ℕ → Along
   last_piece place = record { row = n + 1; place = size; text = false; at = place; len = size - place }
@@ -57,7 +58,7 @@ module _ (t φ : List ℕ) (j : Bool) (h : Copy) (n size : ℕ) where
   with_piece c = pick (eqb c.len 0) (next_piece c) c
 
 -- The donor that is left: what is left of the piece, and the donor from the place behind it on, with the rows that are left.
-abbrev pub left_of : (reference text t φ : List ℕ) → Bool → Copy → ℕ → Along → List ℕ
+abbrev pub left_of : (reference text : List ℕ) (t : List Row) (φ : List ℕ) → Bool → Copy → ℕ → Along → List ℕ
 left_of reference text t φ j h n c =
     stretch (bases_from reference text c.text) c.at c.len
     ++ donor_from reference c.place

@@ -3,23 +3,13 @@ ghost use Rattle.std.specs.Prelude.{◌≡◌, ◌+◌, ◌≤◌, min, length};
 ghost use Rattle.bases.specs.Letter.{bases_of};
 ghost use Rattle.bases.specs.Same.{agree?};
 ghost use Rattle.bases.specs.Stretch.{stretch};
-ghost use Rattle.donors.specs.Agree.{Ready, ApartOn, one_donor?};
+ghost use Rattle.donors.specs.Agree.{CaseReady, CaseApart, case_agrees?};
 ghost use Rattle.donors.specs.Table.{bases_from, copy_of};
 
-use crate::table::{MOST, TABLE};
-use crate::walk::{Along, past, with_piece};
+use crate::table::{MOST, Row, WhichCopy};
+use crate::walk::{Along, beginning, past, with_piece};
 use bases::reference::{base_count, part_agrees, stretches_agree};
 use bases::same::parts_agree;
-
-// The smaller of two lengths.
-fn shorter(a: usize, b: usize) -> usize
-    ensures { result ≡ min a b }
-{
-    if a < b {
-        return a;
-    }
-    b
-}
 
 // Are the next m bases of a piece of list 1's donor those of a piece of list 2's?
 fn pieces_agree(reference: &[u8], first: &[u8], second: &[u8], a: Along, b: Along, m: usize) -> bool
@@ -40,48 +30,39 @@ fn pieces_agree(reference: &[u8], first: &[u8], second: &[u8], a: Along, b: Alon
     stretches_agree(reference, a.at, b.at, m)
 }
 
-// Are the donors of the two lists on a copy equal, with the first n entries of the table and their choices? The first two bases that differ
-// end the walk. Where neither list has an entry left, what is left of the reference is the same exactly if both walks stand at one place.
-pub fn donors_agree(
-    reference: &[u8],
-    first: &[u8],
-    second: &[u8],
-    table: &[u32; TABLE],
-    n: usize,
-    choices: &[u8; MOST],
-    copy: usize,
-) -> bool
-    requires { Ready (bases_of reference.now) first.now second.now table.now n
-        × ApartOn (bases_of reference.now) first.now second.now table.now choices.now (copy_of copy) n }
-    ensures { result ≡ one_donor? (bases_of reference.now) first.now second.now table.now
-        choices.now (copy_of copy) n }
+// What the donors of two lists are made of: the reference, the texts of the lists, and the first n rows of a table of their entries.
+#[derive(Clone, Copy)]
+pub struct Case<'a> {
+    pub reference: &'a [u8],
+    pub first: &'a [u8],
+    pub second: &'a [u8],
+    pub table: &'a [Row; MOST],
+    pub n: usize,
+}
+
+// Are the donors of the two lists on a copy equal, with the case's entries and their choices? The first two bases that differ end the
+// walk. Where neither list has an entry left, what is left of the reference is the same exactly if both walks stand at one place.
+pub fn donors_agree(case: &Case, choices: &[u8; MOST], copy: WhichCopy) -> bool
+    requires { CaseReady case.now
+        × CaseApart case.now choices.now (copy_of copy) }
+    ensures { result ≡ case_agrees? case.now choices.now (copy_of copy) }
 {
-    let size = base_count(reference);
-    let mut a = Along {
-        row: 0,
-        place: 0,
-        text: false,
-        at: 0,
-        len: 0,
-    };
-    let mut b = Along {
-        row: 0,
-        place: 0,
-        text: false,
-        at: 0,
-        len: 0,
-    };
+    let n = case.n;
+    let size = base_count(case.reference);
+    let mut a = beginning();
+    let mut b = beginning();
+    // No iterator over pieces: a turn takes as much of both walks as the shorter of their pieces has left, and neither goes piece by piece.
     loop {
-        let x = with_piece(size, table, n, choices, true, copy, a);
-        let y = with_piece(size, table, n, choices, false, copy, b);
-        if (n < x.row) & (n < y.row) {
+        let x = with_piece(size, case.table, n, choices, true, copy, a);
+        let y = with_piece(size, case.table, n, choices, false, copy, b);
+        if n < x.row && n < y.row {
             return x.at == y.at;
         }
-        let m = shorter(x.len, y.len);
+        let m = x.len.min(y.len);
         if m == 0 {
             return false;
         }
-        if !pieces_agree(reference, first, second, x, y, m) {
+        if !pieces_agree(case.reference, case.first, case.second, x, y, m) {
             return false;
         }
         a = past(x, m);

@@ -1,13 +1,14 @@
 // A walk along the donor of a list on a copy, piece by piece: reference and alleles in turn.
 ghost use Rattle.std.specs.Prelude.{◌≡◌, ◌+◌, ◌-◌, ◌≤◌, ◌<◌, ◌^◌};
 ghost use Rattle.donors.specs.Table.{most, copy_of};
-ghost use Rattle.donors.specs.Walk.{passed, next_row, next_piece, with_piece};
+ghost use Rattle.donors.specs.Walk.{beginning, passed, next_row, next_piece, with_piece};
 
-use crate::table::{LEN, MOST, START, TABLE, allele_of, number, takes};
+use crate::table::{MOST, Row, WhichCopy, allele_of, takes};
 
 // Where a walk stands: `len` bytes of its piece are left, from `at` on in the text of the list or in the reference. Behind the piece the
 // donor goes on at place `place` of the reference, with the rows from `row` on. Where none is left `row` is above their number, and the
-// piece is the last.
+// piece is the last: `last_piece` and `next_row` of specs/Walk.antt, and `Stands` of proofs/StandLaws.antt, say it by that number. `text`
+// is a bool as in Allele.
 #[derive(Clone, Copy)]
 pub struct Along {
     pub row: usize,
@@ -17,81 +18,93 @@ pub struct Along {
     pub len: usize,
 }
 
-// The first row from row `from` on that takes its span for list 1 (or 2) on a copy, n or more where none does.
+// At the reference's start, before every row, with nothing of a piece left.
+pub fn beginning() -> Along
+    ensures { result ≡ beginning }
+{
+    Along {
+        row: 0,
+        place: 0,
+        text: false,
+        at: 0,
+        len: 0,
+    }
+}
+
+// The first row from row `from` on that takes its span for list 1 (or 2) on a copy, n or more where none does: `next_row` of
+// specs/Walk.antt counts so, and the walk goes on from that number.
 fn next_row(
-    table: &[u32; TABLE],
+    table: &[Row; MOST],
     n: usize,
     choices: &[u8; MOST],
     first: bool,
-    copy: usize,
+    copy: WhichCopy,
     from: usize,
 ) -> usize
     requires { n ≤ most }
     ensures { result ≡ next_row table.now choices.now first (copy_of copy) from (n - from) }
 {
-    let mut row = from;
-    while row < n {
-        if takes(table, row, choices[row], first, copy) {
+    for row in from..n {
+        if takes(&table[row], choices[row], first, copy) {
             return row;
         }
-        row += 1;
     }
-    row
+    from.max(n)
 }
 
 // The next piece of the donor, over a reference of `size` bases.
 fn next_piece(
     size: usize,
-    table: &[u32; TABLE],
+    table: &[Row; MOST],
     n: usize,
     choices: &[u8; MOST],
     first: bool,
-    copy: usize,
+    copy: WhichCopy,
     along: Along,
 ) -> Along
     requires { (n ≤ most)
         × (along.place ≤ size) }
     ensures { result ≡ next_piece table.now choices.now first (copy_of copy) n size along }
 {
-    let place = along.place;
     let row = next_row(table, n, choices, first, copy, along.row);
     if n <= row {
         return Along {
             row: n + 1,
             place: size,
             text: false,
-            at: place,
-            len: size - place,
+            at: along.place,
+            len: size - along.place,
         };
     }
-    let start = number(table, row, START);
-    if place < start {
+    let entry = &table[row];
+    let start = entry.start as usize;
+    if along.place < start {
         return Along {
             row,
             place: start,
             text: false,
-            at: place,
-            len: start - place,
+            at: along.place,
+            len: start - along.place,
         };
     }
-    let allele = allele_of(table, row, choices[row], copy);
+    let allele = allele_of(entry, choices[row], copy);
     Along {
         row: row + 1,
-        place: start + number(table, row, LEN),
+        place: start + entry.len as usize,
         text: allele.text,
-        at: allele.at,
-        len: allele.len,
+        at: allele.at as usize,
+        len: allele.len as usize,
     }
 }
 
 // The same walk, where nothing is left of its piece at the next one.
 pub fn with_piece(
     size: usize,
-    table: &[u32; TABLE],
+    table: &[Row; MOST],
     n: usize,
     choices: &[u8; MOST],
     first: bool,
-    copy: usize,
+    copy: WhichCopy,
     along: Along,
 ) -> Along
     requires { (n ≤ most)

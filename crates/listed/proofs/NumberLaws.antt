@@ -1,6 +1,5 @@
 -- The clusters' numbers of items, one an item, by a walk over the items and by the plan's records.
 --     cut_nothing                         before the first item of all the rule cuts
---     numbers_on                           by the walk: b clusters have begun, and c is kept of the last
 --     numbers_plan                        they are those of the plan's records
 --     numbers_length, numbers_all         one an item; one an entry
 --     Covers, number_covers               each entry's number is that of the record that has it
@@ -23,7 +22,7 @@ use Rattle.marks.specs.Counts.{one}
 use Rattle.clusters.specs.Gap.{size_of, more, nothing, begin, cut?}
 use Rattle.clusters.specs.Item.{variant}
 use Rattle.listed.specs.Listed.{numbers_from}
-use Rattle.listed.specs.Listing.{grown}
+use Rattle.listed.specs.Listing.{grown, numbers_on}
 use Rattle.clusters.specs.Merged.{merged_items, merged_variants}
 use Rattle.clusters.specs.Plan.{onto, rest, plan, records_from, plan_of}
 use Rattle.clusters.proofs.CardClusters.{map_length}
@@ -40,13 +39,7 @@ once_more (suc n) k ks =
     rw e (ap (λ (l : List ℕ). k ∷ l) (once_more n k ks))
 
 module _ {X C H : Type 0} (𝓡 : Rules X C H) (R : List ℕ) where
-  unfoldable pub numbers_on : Current → ℕ → List X → List ℕ
-  numbers_on c b [] = []
-  numbers_on c b (x ∷ xs) =
-      let cut = cut? R c (size_of 𝓡 x).start in
-      (b + one cut - 1) ∷ numbers_on (grown c (size_of 𝓡 x) cut) (b + one cut) xs
-
-  pub numbers_length : (c : Current) (b : ℕ) (xs : List X) → length (numbers_on c b xs) ≡ length xs
+  pub numbers_length : (c : Current) (b : ℕ) (xs : List X) → length (numbers_on 𝓡 R c b xs) ≡ length xs
   unfolding numbers_on
   numbers_length c b [] = refl
   numbers_length c b (x ∷ xs) =
@@ -54,14 +47,14 @@ module _ {X C H : Type 0} (𝓡 : Rules X C H) (R : List ℕ) where
       ap suc (numbers_length (grown c (size_of 𝓡 x) cut) (b + one cut) xs)
 
   numbers_cut : (c : Current) (b : ℕ) (x : X) (xs : List X) → cut? R c (size_of 𝓡 x).start ≡ true
-      → numbers_on c b (x ∷ xs) ≡ b ∷ numbers_on (begin (size_of 𝓡 x)) (b + 1) xs
+      → numbers_on 𝓡 R c b (x ∷ xs) ≡ b ∷ numbers_on 𝓡 R (begin (size_of 𝓡 x)) (b + 1) xs
   unfolding numbers_on
   numbers_cut c b x xs e =
       let m : b + 1 - 1 ≡ b = omega arith in
       rw (e, m)
 
   numbers_more : (c : Current) (b : ℕ) (x : X) (xs : List X) → cut? R c (size_of 𝓡 x).start ≡ false
-      → numbers_on c (b + 1) (x ∷ xs) ≡ b ∷ numbers_on (more c (size_of 𝓡 x)) (b + 1) xs
+      → numbers_on 𝓡 R c (b + 1) (x ∷ xs) ≡ b ∷ numbers_on 𝓡 R (more c (size_of 𝓡 x)) (b + 1) xs
   unfolding numbers_on
   numbers_more c b x xs e =
       let z : b + 1 + 0 ≡ b + 1 = omega arith in
@@ -70,23 +63,23 @@ module _ {X C H : Type 0} (𝓡 : Rules X C H) (R : List ℕ) where
 
   -- the clusters of which the first, number k, has d already
   numbers_rest : (d : List X) (c : Current) (k i : ℕ) (xs : List X)
-      → numbers_from k (records_from i (onto d (rest 𝓡 R c xs))) ≡ replicate (length d) k ++ numbers_on c (k + 1) xs
+      → numbers_from k (records_from i (onto d (rest 𝓡 R c xs))) ≡ replicate (length d) k ++ numbers_on 𝓡 R c (k + 1) xs
   unfolding numbers_from records_from numbers_on
   numbers_rest d c k i [] = rw (rest_none 𝓡 R c, append-nil d)
   numbers_rest d c k i (x ∷ xs) =
       go (cut? R c (size_of 𝓡 x).start) refl (λ (j : ℕ). numbers_rest (x ∷ []) (begin (size_of 𝓡 x)) (k + 1) j xs) (numbers_rest (d ++ (x ∷ [])) (more c (size_of 𝓡 x)) k i xs)
     where
       go : (t : Bool) → cut? R c (size_of 𝓡 x).start ≡ t
-          → ((j : ℕ) → numbers_from (k + 1) (records_from j (onto (x ∷ []) (rest 𝓡 R (begin (size_of 𝓡 x)) xs))) ≡ replicate 1 (k + 1) ++ numbers_on (begin (size_of 𝓡 x)) (k + 1 + 1) xs)
-          → numbers_from k (records_from i (onto (d ++ (x ∷ [])) (rest 𝓡 R (more c (size_of 𝓡 x)) xs))) ≡ replicate (length (d ++ (x ∷ []))) k ++ numbers_on (more c (size_of 𝓡 x)) (k + 1) xs
-          → numbers_from k (records_from i (onto d (rest 𝓡 R c (x ∷ xs)))) ≡ replicate (length d) k ++ numbers_on c (k + 1) (x ∷ xs)
+          → ((j : ℕ) → numbers_from (k + 1) (records_from j (onto (x ∷ []) (rest 𝓡 R (begin (size_of 𝓡 x)) xs))) ≡ replicate 1 (k + 1) ++ numbers_on 𝓡 R (begin (size_of 𝓡 x)) (k + 1 + 1) xs)
+          → numbers_from k (records_from i (onto (d ++ (x ∷ [])) (rest 𝓡 R (more c (size_of 𝓡 x)) xs))) ≡ replicate (length (d ++ (x ∷ []))) k ++ numbers_on 𝓡 R (more c (size_of 𝓡 x)) (k + 1) xs
+          → numbers_from k (records_from i (onto d (rest 𝓡 R c (x ∷ xs)))) ≡ replicate (length d) k ++ numbers_on 𝓡 R c (k + 1) (x ∷ xs)
       go true e f g = rw (rest_cut 𝓡 R c x xs e, numbers_cut c (k + 1) x xs e, append-nil d) (ap (λ (l : List ℕ). replicate (length d) k ++ l) (f (i + length d)))
       go false e f g =
           let n : length (d ++ (x ∷ [])) ≡ length d + 1 = omega (arith, length-append d (x ∷ [])) in
           rw (rest_more 𝓡 R c x xs e, numbers_more c k x xs e, onto_onto d (x ∷ []))
-          (g ∙ ap (λ (m : ℕ). replicate m k ++ numbers_on (more c (size_of 𝓡 x)) (k + 1) xs) n ∙ once_more (length d) k (numbers_on (more c (size_of 𝓡 x)) (k + 1) xs))
+          (g ∙ ap (λ (m : ℕ). replicate m k ++ numbers_on 𝓡 R (more c (size_of 𝓡 x)) (k + 1) xs) n ∙ once_more (length d) k (numbers_on 𝓡 R (more c (size_of 𝓡 x)) (k + 1) xs))
 
-  pub numbers_plan : (xs : List X) → numbers_from 0 (records_from 0 (plan 𝓡 R xs)) ≡ numbers_on nothing 0 xs
+  pub numbers_plan : (xs : List X) → numbers_from 0 (records_from 0 (plan 𝓡 R xs)) ≡ numbers_on 𝓡 R nothing 0 xs
   unfolding numbers_from records_from numbers_on plan
   numbers_plan [] = refl
   numbers_plan (x ∷ xs) = numbers_rest (x ∷ []) (begin (size_of 𝓡 x)) 0 0 xs ∙ sym (numbers_cut nothing 0 x xs (cut_nothing R (size_of 𝓡 x).start))

@@ -1,19 +1,22 @@
--- The walk from entry to entry over two texts: each step has the next entry's record, and where the walk is behind it. Before the first
--- entry there is no cluster, and the gap rule cuts there: so each entry's cluster is the last that has begun.
+-- The walk from entry to entry over two texts: the records of the entries that are left, and where the walk is behind the next. Before the
+-- first entry there is no cluster, and the gap rule cuts there: so each entry's cluster is the last that has begun.
 -- Assumes nothing: these are definitions.
-use Rattle.std.specs.Prelude.{Bool, true, false, List, ◌≡◌, ℕ, ◌+◌, ◌-◌, ◌≤◌, length}
+use Rattle.std.specs.Prelude.{Bool, List, [], ◌∷◌, ◌≡◌, ℕ, ◌+◌, ◌-◌, ◌≤◌, length}
+use Rattle.bases.specs.Letter.{bases_of}
 use Rattle.bases.specs.Pick.{pick}
+use Rattle.donors.specs.Choice.{card_rules}
+use Rattle.donors.specs.Rules.{Rules}
 use Rattle.clusters.specs.declared.gap.Current.{Current}
 use Rattle.clusters.specs.declared.gap.Size.{Size}
+use Rattle.listed.specs.declared.listed.Entries.{Entries}
 use Rattle.listed.specs.declared.listed.Listed.{Listed}
-use Rattle.listed.specs.declared.listed.Listing.{Listing}
 use Rattle.listed.specs.declared.listed.Nexts.{Nexts}
 use Rattle.listed.specs.declared.listed.Stand.{Stand}
 use Rattle.marks.specs.Counts.{one}
-use Rattle.clusters.specs.Gap.{more, nothing, begin, cut?, Kept}
-use Rattle.clusters.specs.Heads.{Ready, start_heads, items_from, done?, next_item, moved}
+use Rattle.clusters.specs.Gap.{size_of, more, nothing, begin, cut?, Kept}
+use Rattle.clusters.specs.Heads.{Ready, start_heads, items_from, next_item, moved, variants_from}
 use Rattle.clusters.specs.Item.{item_size}
-use Rattle.listed.specs.Listed.{listed_as, nexts_after, first_nexts}
+use Rattle.listed.specs.Listed.{listed_as, nexts_after, listed_from, first_nexts}
 
 -- What is kept of the cluster of an entry, where the rule cuts before it and where it does not.
 abbrev pub grown : Current → Size → Bool → Current
@@ -26,6 +29,14 @@ passed_by n = n.first.entry + n.second.entry
 -- What stands for an entry's record where no entry is left.
 abbrev pub not_listed : Listed
 not_listed = record { list = 0; entry = 0; line = 0; cluster = 0 }
+
+module _ {X C H : Type 0} (𝓡 : Rules X C H) (R : List ℕ) where
+  -- The clusters' numbers of items, one an item, where b clusters have begun, and c is kept of the last.
+  unfoldable pub numbers_on : Current → ℕ → List X → List ℕ
+  numbers_on c b [] = []
+  numbers_on c b (x ∷ xs) =
+      let cut = cut? R c (size_of 𝓡 x).start in
+      (b + one cut - 1) ∷ numbers_on (grown c (size_of 𝓡 x) cut) (b + one cut) xs
 
 -- At the first entries.
 abbrev pub start_stand : List ℕ → List ℕ → Stand
@@ -66,16 +77,14 @@ module _ (reference first second : List ℕ) where
   abbrev pub listed_at : Stand → Listed
   listed_at s = listed_as s.nexts (next_item first second s.heads).side (begun_at s - 1)
 
-  -- The step there. Where no entry is left, it stays.
-  abbrev pub listing_from : Stand → Listing
-  listing_from s =
-      pick (done? first second s.heads) (record { more = false; listed = not_listed; behind = s })
-      (record { more = true; listed = listed_at s; behind = stand_after s })
+  -- The records of the entries from there on.
+  abbrev pub listed_on : Stand → List Listed
+  listed_on s =
+      listed_from s.nexts (numbers_on card_rules reference s.current s.begun (variants_from reference first second s.heads)) (items_from first second s.heads)
 
-  -- The first step.
-  abbrev pub first_listing : Listing
-  first_listing = listing_from (start_stand first second)
+-- What a walk leans on, and the records of the entries that it has left.
+abbrev pub Goes : Entries → Type 0
+Goes w = Going (bases_of w.lists.reference.now) w.lists.first.now w.lists.second.now w.stand
 
-  -- The step behind one.
-  abbrev pub next_listing : Listing → Listing
-  next_listing w = listing_from w.behind
+abbrev pub entries_left : Entries → List Listed
+entries_left w = listed_on (bases_of w.lists.reference.now) w.lists.first.now w.lists.second.now w.stand

@@ -1,19 +1,21 @@
-// The entries in merged order: a lent slice of small records, one an entry. A walk by value finds the records, each entry read once; only
+// The entries in merged order: a lent slice of small records, one an entry. A walk finds the records, each entry read once; only
 // `fill_entries` touches the slice.
 ghost use Rattle.std.specs.Prelude.{◌≡◌, ◌+◌, ◌≤◌, ◌<◌, ◌^◌, length};
+ghost use Rattle.std.specs.Iterator.{YieldsFirst, item_count};
 ghost use Rattle.bases.specs.Letter.{bases_of};
 ghost use Rattle.bases.specs.Put.{put};
 ghost use Rattle.vcf.specs.List.{longest_text};
 ghost use Rattle.marks.specs.Counts.{one};
 ghost use Rattle.clusters.specs.Gap.{Adds};
-ghost use Rattle.clusters.specs.Heads.{Ready, start_heads};
+ghost use Rattle.clusters.specs.Heads.{start_heads};
 ghost use Rattle.listed.specs.Listed.{list_number, next_of, one_on, nexts_after, listed_as, first_next, listed_of};
-ghost use Rattle.listed.specs.Listing.{grown, Going, start_stand, listing_from, first_listing, next_listing};
+ghost use Rattle.listed.specs.Listing.{grown, start_stand, Goes, entries_left};
 ghost use Rattle.clusters.specs.Merged.{merged_items};
 
 use clusters::gap::{Current, Size, begin, is_cut, more, nothing};
 use clusters::heads::{Heads, after, is_done, next_item, start_heads};
 use clusters::item::size_of;
+use clusters::lists::Lists;
 use vcf::entry::lines_above;
 
 // An entry: its list (1 or 2), its number in the list (from 0), its line in that list's text (from 1) and its cluster.
@@ -50,12 +52,11 @@ pub struct Stand {
     pub begun: u32,
 }
 
-// A step of the walk: is there an entry, its record, and where the walk is behind it.
+// A walk over the entries of two lists from where it stands on.
 #[derive(Clone, Copy)]
-pub struct Listing {
-    pub more: bool,
-    pub listed: Listed,
-    pub behind: Stand,
+pub struct Entries<'a> {
+    lists: Lists<'a>,
+    stand: Stand,
 }
 
 // The first entry of a list.
@@ -63,10 +64,9 @@ fn first_next(text: &[u8]) -> Next
     requires { length text.now ≤ longest_text }
     ensures { result ≡ first_next text.now }
 {
-    let above = lines_above(text);
     Next {
         entry: 0,
-        line: (above + 1) as u32,
+        line: (lines_above(text) + 1) as u32,
     }
 }
 
@@ -76,14 +76,11 @@ fn start_stand(first: &[u8], second: &[u8]) -> Stand
         × (length second.now ≤ longest_text) }
     ensures { result ≡ start_stand first.now second.now }
 {
-    let heads = start_heads(first, second);
-    let next1 = first_next(first);
-    let next2 = first_next(second);
     Stand {
-        heads,
+        heads: start_heads(first, second),
         nexts: Nexts {
-            first: next1,
-            second: next2,
+            first: first_next(first),
+            second: first_next(second),
         },
         current: nothing(),
         begun: 0,
@@ -108,22 +105,21 @@ fn nexts_after(nexts: Nexts, side: bool) -> Nexts
         × ((next_of nexts side).line + 1 < 2 ^ 32) }
     ensures { result ≡ nexts_after nexts side }
 {
-    let first = nexts.first;
-    let second = nexts.second;
     if side {
-        return Nexts {
-            first: one_on(first),
-            second,
-        };
-    }
-    Nexts {
-        first,
-        second: one_on(second),
+        Nexts {
+            first: one_on(nexts.first),
+            ..nexts
+        }
+    } else {
+        Nexts {
+            second: one_on(nexts.second),
+            ..nexts
+        }
     }
 }
 
 // The number of a list (`side`: list 1).
-fn list_number(side: bool) -> u32
+pub fn list_number(side: bool) -> u32
     ensures { result ≡ list_number side }
 {
     if side { 1 } else { 2 }
@@ -133,10 +129,7 @@ fn list_number(side: bool) -> u32
 fn next_of(nexts: Nexts, side: bool) -> Next
     ensures { result ≡ next_of nexts side }
 {
-    if side {
-        return nexts.first;
-    }
-    nexts.second
+    if side { nexts.first } else { nexts.second }
 }
 
 // The record of a list's next entry, which is in this cluster.
@@ -156,7 +149,7 @@ fn listed_as(nexts: Nexts, side: bool, cluster: u32) -> Listed
 fn one(test: bool) -> u32
     ensures { result ≡ one test }
 {
-    if test { 1 } else { 0 }
+    u32::from(test)
 }
 
 // What is kept of the cluster of an entry, where the rule cuts before it and where it does not.
@@ -165,79 +158,63 @@ fn grown(current: Current, size: Size, cut: bool) -> Current
     ensures { result ≡ grown current size cut }
 {
     if cut {
-        return begin(size);
+        begin(size)
+    } else {
+        more(current, size)
     }
-    more(current, size)
 }
 
-// The step where the walk stands. Where no entry is left, it stays.
-fn listing_from(reference: &[u8], first: &[u8], second: &[u8], stand: Stand) -> Listing
-    requires { Going (bases_of reference.now) first.now second.now stand }
-    ensures { result ≡ listing_from (bases_of reference.now) first.now second.now stand }
+// A walk over all entries of two lists, each read once.
+pub fn all_entries(lists: Lists) -> Entries
+    ensures { Goes result
+        × (entries_left result ≡ listed_of (bases_of lists.entry.reference.now) lists.entry.first.now lists.entry.second.now) }
 {
-    let heads = stand.heads;
-    if is_done(first, second, heads) {
-        return Listing {
-            more: false,
-            listed: Listed {
-                list: 0,
-                entry: 0,
-                line: 0,
-                cluster: 0,
-            },
-            behind: stand,
-        };
+    Entries {
+        lists,
+        stand: start_stand(lists.first, lists.second),
     }
-    let item = next_item(first, second, heads);
-    let size = size_of(item);
-    let current = stand.current;
-    let nexts = stand.nexts;
-    let cut = is_cut(reference, current, size.start);
-    let begun = stand.begun + one(cut);
-    Listing {
-        more: true,
-        listed: listed_as(nexts, item.side, begun - 1),
-        behind: Stand {
-            heads: after(first, second, heads, item.side),
-            nexts: nexts_after(nexts, item.side),
-            current: grown(current, size, cut),
+}
+
+impl<'a> Iterator for Entries<'a> {
+    type Item = Listed;
+
+    ghost can_next = { Goes };
+
+    ghost next_gives = { YieldsFirst entries_left };
+
+    ghost remaining = { item_count entries_left };
+
+    fn next(&mut self) -> Option<Listed> {
+        let stand = self.stand;
+        if is_done(self.lists.first, self.lists.second, stand.heads) {
+            return None;
+        }
+        let item = next_item(self.lists.first, self.lists.second, stand.heads);
+        let size = size_of(item);
+        let cut = is_cut(self.lists.reference, stand.current, size.start);
+        let begun = stand.begun + one(cut);
+        self.stand = Stand {
+            heads: after(self.lists.first, self.lists.second, stand.heads, item.side),
+            nexts: nexts_after(stand.nexts, item.side),
+            current: grown(stand.current, size, cut),
             begun,
-        },
+        };
+        Some(listed_as(stand.nexts, item.side, begun - 1))
     }
-}
-
-// The first step.
-pub fn first_listing(reference: &[u8], first: &[u8], second: &[u8]) -> Listing
-    requires { Ready (bases_of reference.now) first.now second.now (start_heads first.now second.now) }
-    ensures { result ≡ first_listing (bases_of reference.now) first.now second.now }
-{
-    let stand = start_stand(first, second);
-    listing_from(reference, first, second, stand)
-}
-
-// The step behind one.
-pub fn next_listing(reference: &[u8], first: &[u8], second: &[u8], listing: Listing) -> Listing
-    requires { Going (bases_of reference.now) first.now second.now listing.behind }
-    ensures { result ≡ next_listing (bases_of reference.now) first.now second.now listing }
-{
-    let stand = listing.behind;
-    listing_from(reference, first, second, stand)
 }
 
 // Writes the records of all entries of two lists, in merged order, into the lent records, and says how many there are. Nothing else of the
-// records changes.
-pub fn fill_entries(reference: &[u8], first: &[u8], second: &[u8], entries: &mut [Listed]) -> usize
-    requires { Ready (bases_of reference.now) first.now second.now (start_heads first.now second.now)
-        × (length (merged_items first.now second.now) ≤ length entries.old) }
-    ensures { (result ≡ length (listed_of (bases_of reference.now) first.now second.now))
+// records changes. Two loops of two lines, this and clusters' `fill_plan`, are plainer than a generic one.
+pub fn fill_entries(lists: Lists, entries: &mut [Listed]) -> usize
+    requires { length (merged_items lists.first.now lists.second.now) ≤ length entries.old }
+    ensures { (result ≡ length (listed_of (bases_of lists.entry.reference.now) lists.entry.first.now lists.entry.second.now))
         × (entries.new
-        ≡ put entries.old 0 (listed_of (bases_of reference.now) first.now second.now)) }
+        ≡ put entries.old 0 (listed_of (bases_of lists.entry.reference.now) lists.entry.first.now lists.entry.second.now)) }
 {
-    let mut listing = first_listing(reference, first, second);
+    // `k` is what is told, so it is counted here: `enumerate` would be no plainer, since it does not say how many there were.
     let mut k: usize = 0;
-    while listing.more {
-        entries[k] = listing.listed;
-        listing = next_listing(reference, first, second, listing);
+    for listed in all_entries(lists) {
+        entries[k] = listed;
         k += 1;
     }
     k

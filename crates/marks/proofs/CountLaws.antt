@@ -9,6 +9,7 @@
 --     totals_all                   so the totals are what all the marks count
 --     counts_marks                 more marks than entries
 --     count_few, counts_few        no count is above the most entries
+--     count_none, counts_none      the counts of no marks are those with zeros
 -- Assumes nothing.
 use mathlib.Core.Bool.{Bool, true, false, beq}
 use mathlib.Core.List.{List, [], ◌∷◌, ◌++◌, append-nil}
@@ -20,6 +21,8 @@ use lib.ListN.{length, get_or, take}
 use lib.Seq.{length-take-le, take-suc}
 use Rattle.donors.specs.Rules.{list1, list2, put_if}
 use Rattle.clusters.specs.declared.item.Item.{Item}
+use Rattle.marks.specs.declared.count.Count.{Count}
+use Rattle.marks.specs.declared.count.Counts.{Counts}
 use Rattle.marks.specs.Counts.{one, matched?, unmatched?, undecided?, how_many, count_all, add_mark, own_marks, counts_of, add_entry, totals, most_entries, Few}
 
 pub one_le : (t : Bool) → one t ≤ 1
@@ -139,3 +142,21 @@ counts_few is ms k = (
   marks_few (own_marks list1 is ms) (omega (arith, own_le list1 is ms)),
   marks_few (own_marks list2 is ms) (omega (arith, own_le list2 is ms)),
 )
+
+-- All three counts are 0.
+abbrev pub Zeros : Count → Type 0
+Zeros c = (c.matched ≡ 0) × ((c.unmatched ≡ 0) × (c.undecided ≡ 0))
+
+pub count_none : (c : Count) → Zeros c → c ≡ count_all []
+unfolding how_many
+count_none c z = made c.matched c.unmatched c.undecided z.0 z.1.0 z.1.1
+  where
+    made : (m u d : ℕ) → m ≡ 0 → u ≡ 0 → d ≡ 0 → record { matched = m; unmatched = u; undecided = d } ≡ count_all []
+    made m u d e f g = rw (e, f, g)
+
+pub counts_none : (c : Counts) (ms : List ℕ) → Zeros c.first × Zeros c.second → c ≡ counts_of [] ms
+unfolding own_marks
+counts_none c ms z = made c.first c.second (count_none c.first z.0) (count_none c.second z.1)
+  where
+    made : (a b : Count) → a ≡ count_all [] → b ≡ count_all [] → ◌≡◌ {A = Counts} record { first = a; second = b } record { first = count_all []; second = count_all [] }
+    made a b e f = rw (e, f)

@@ -1,77 +1,56 @@
--- Laws of the walk that counts, entry after entry, in the form that the code's loop has: h is the cursors, before which there are i
--- entries, and c what is counted so far.
+-- Laws of the walk that counts, entry after entry: `left` are the entries that are left, before which there are i, and `given` the marks that
+-- are left.
 --     Counting                         behind i entries, what is counted are these
 --     counting_begin, counting_few     so it is at the start; no count is above the most entries
---     counting_room, counting_less, counting_more
---                                      where an entry is left: it has a mark; fewer are left behind it; so it is there too
---     counting_end                     where none is left, all entries are counted
+--     counting_more                    so it is behind one more entry
+--     counting_end                     where no entry is left, or no mark, all entries are counted
 -- Assumes nothing.
-use mathlib.Core.Bool.{true, false}
-use mathlib.Core.List.{List, []}
-use mathlib.Core.Path.{◌≡◌, refl, sym, ap, ◌∙◌}
+use mathlib.Core.List.{List, ◌∷◌}
+use mathlib.Core.Logic.{◌⊎◌, ⊎_elim}
+use mathlib.Core.Path.{◌≡◌, sym, ap, ◌∙◌}
 use Prim.Native.Nat.{ℕ, ◌+◌, ◌≤◌, ◌<◌}
 use native.Mathlib.Omega.{arith}
 use lib.ListN.{length, get_or, take, drop, length-drop}
-use lib.Seq.{length-take-le, take_all, get_or-drop}
-use Rattle.donors.specs.Rules.{list1}
-use Rattle.vcf.specs.Entry.{entry_of}
+use lib.Seq.{length-take-le, take_all, get_or-drop, drop-drop}
 use Rattle.marks.specs.declared.count.Counts.{Counts}
-use Rattle.clusters.specs.declared.heads.Heads.{Heads}
 use Rattle.clusters.specs.declared.item.Item.{Item}
-use Rattle.marks.specs.Counts.{how_many, own_marks, counts_of, add_entry, most_entries, Few}
-use Rattle.clusters.specs.Heads.{Readable, start_heads, items_from, done?, next_item, moved, passed}
-use Rattle.clusters.specs.Merged.{item_of, merged_items}
-use Rattle.marks.proofs.CountLaws.{counts_next, counts_few}
-use Rattle.clusters.proofs.HeadsLaws.{items_none, items_step, readable_moved, passed_next, passed_items}
+use Rattle.marks.specs.Counts.{counts_of, add_entry, most_entries, Few}
+use Rattle.marks.proofs.CountLaws.{counts_next, counts_few, Zeros, counts_none}
 
-pub record Counting (first second marks : List ℕ) (c : Counts) (h : Heads) (i : ℕ) : Type 0 where
-  pub readable : Readable first second h
-  pub inside : i ≤ length (merged_items first second)
-  pub heads : h ≡ passed first second i (start_heads first second)
-  pub counted : c ≡ counts_of (take i (merged_items first second)) marks
+pub record Counting (all : List Item) (marks : List ℕ) (c : Counts) (left : List Item) (given : List ℕ) (i : ℕ) : Type 0 where
+  pub inside : i ≤ length all
+  pub entries : left ≡ drop i all
+  pub lent : given ≡ drop i marks
+  pub counted : c ≡ counts_of (take i all) marks
 
-module _ (first second marks : List ℕ) where
-  -- The entries, and what stands for none.
-  abbrev all : List Item
-  all = merged_items first second
+module _ (all : List Item) (marks : List ℕ) where
+  pub counting_begin : (c : Counts) → Zeros c.first × Zeros c.second → {left : List Item} {given : List ℕ} → left ≡ all → given ≡ marks → Counting all marks c left given 0
+  counting_begin c z e f = record { inside = omega arith; entries = e; lent = f; counted = counts_none c marks z }
 
-  abbrev none : Item
-  none = item_of list1 (entry_of [] 0)
-
-  pub counting_begin : Readable first second (start_heads first second)
-      → Counting first second marks (record { first = record { matched = 0; unmatched = 0; undecided = 0 }; second = record { matched = 0; unmatched = 0; undecided = 0 } }) (start_heads first second) 0
-  unfolding passed how_many own_marks
-  counting_begin r = record { readable = r; inside = omega arith; heads = refl; counted = refl }
-
-  module _ (c : Counts) (h : Heads) (i : ℕ) (w : Counting first second marks c h i) where
-    left : items_from first second h ≡ drop i (merged_items first second)
-    left = ap (items_from first second) w.heads ∙ passed_items first second i (start_heads first second) w.inside
-
-    pub counting_few : length (merged_items first second) ≤ most_entries → Few c.first × Few c.second
+  module _ {c : Counts} {left : List Item} {given : List ℕ} {i : ℕ} (w : Counting all marks c left given i) where
+    pub counting_few : length all ≤ most_entries → Few c.first × Few c.second
     counting_few k = rw w.counted (counts_few (take i all) marks (omega (arith, length-take-le i all w.inside, w.inside)))
 
-    pub counting_end : done? first second h ≡ true → c ≡ counts_of (merged_items first second) marks
-    counting_end d =
-        let e = ap length (sym left ∙ items_none first second h d) in
-        w.counted ∙ ap (λ (is : List Item). counts_of is marks) (take_all i all (omega (arith, e, length-drop i all)))
+    pub counting_end : length all ≤ length marks → length left ≡ 0 ⊎ length given ≡ 0 → c ≡ counts_of all marks
+    counting_end k e = w.counted ∙ ap (λ (is : List Item). counts_of is marks) (take_all i all (⊎_elim first second e))
+      where
+        first : length left ≡ 0 → length all ≤ i
+        first n = omega (arith, n, ap length w.entries, length-drop i all)
 
-    module _ (d : done? first second h ≡ false) where
-      pub counting_room : i < length (merged_items first second)
-      counting_room = omega (arith, ap length (items_step first second h d).split, ap length left, length-drop i all)
+        second : length given ≡ 0 → length all ≤ i
+        second n = omega (arith, n, ap length w.lent, length-drop i marks, k)
 
-      pub counting_less : length (items_from first second (moved first second h (next_item first second h).side)) < length (items_from first second h)
-      counting_less = omega (arith, ap length (items_step first second h d).split)
-
-      pub counting_more : length (merged_items first second) ≤ length marks
-          → Counting first second marks (add_entry c (next_item first second h).side (get_or marks i 0)) (moved first second h (next_item first second h).side) (i + 1)
-      counting_more k =
-          let s = items_step first second h d in
-          let x = next_item first second h in
+    module _ {x : Item} {m : ℕ} {others : List Item} {ms : List ℕ} (e : left ≡ x ∷ others) (f : given ≡ m ∷ ms) where
+      pub counting_more : {n : ℕ} → n ≡ i + 1 → Counting all marks (add_entry c x.side m) others ms n
+      counting_more en =
           let z : i + 0 ≡ i = omega arith in
-          let e : x ≡ get_or all i none = ap (λ (is : List Item). get_or is 0 none) left ∙ get_or-drop i all 0 none ∙ ap (λ (n : ℕ). get_or all n none) z in
-          record {
-            readable = readable_moved first second h w.readable x.side s.inside;
-            inside = omega (arith, counting_room);
-            heads = rw w.heads (sym (passed_next first second i (start_heads first second)));
-            counted = rw (e, w.counted) (sym (counts_next all marks i none counting_room (omega (arith, counting_room))));
+          let a : x ≡ get_or all i x = ap (λ (is : List Item). get_or is 0 x) (sym e ∙ w.entries) ∙ get_or-drop i all 0 x ∙ ap (λ (n : ℕ). get_or all n x) z in
+          let b : m ≡ get_or marks i 0 = ap (λ (l : List ℕ). get_or l 0 0) (sym f ∙ w.lent) ∙ get_or-drop i marks 0 0 ∙ ap (λ (n : ℕ). get_or marks n 0) z in
+          let some : i < length all = omega (arith, ap length w.entries, ap length e, length-drop i all) in
+          let marked : i < length marks = omega (arith, ap length w.lent, ap length f, length-drop i marks) in
+          rw en record {
+            inside = omega (arith, some);
+            entries = ap (drop 1) (sym e ∙ w.entries) ∙ drop-drop 1 i all;
+            lent = ap (drop 1) (sym f ∙ w.lent) ∙ drop-drop 1 i marks;
+            counted = ap (λ (d : Counts). add_entry d x.side m) w.counted ∙ rw (← b) at (rw (← a) at (sym (counts_next all marks i x some marked)));
           }

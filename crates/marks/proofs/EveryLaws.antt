@@ -22,9 +22,9 @@ use Rattle.clusters.specs.declared.heads.Heads.{Heads}
 use Rattle.marks.specs.declared.mark.Marked.{Marked}
 use Rattle.clusters.specs.Heads.{items_from, done?, variants_from, first_count, found_at}
 use Rattle.marks.specs.Markable.{Markable}
-use Rattle.marks.specs.Marks.{marks_of, score_of, marked_of, clusters_from, all_marks, total_score}
+use Rattle.marks.specs.Marks.{marks_of, score_of, marked_of, told_score, clusters_from, all_marks, total_score}
 use Rattle.clusters.proofs.FirstLaws.{first_take}
-use Rattle.marks.proofs.MarkLaws.{marks_length, score_few, next_long, next_plain}
+use Rattle.marks.proofs.MarkLaws.{marks_length, score_few, score_told, next_long, next_plain}
 use Rattle.clusters.proofs.NextLaws.{count_some, count_le, found_left, ready_found, next_done, next_plan}
 
 module _ (reference first second : List ℕ) (h : Heads) where
@@ -76,7 +76,7 @@ module _ (reference first second : List ℕ) where
 
     pub marking_more : done? first second h ≡ false → {f : Found} {k : Marked} {m' : List ℕ} → f ≡ found_at reference first second h
         → k ≡ marked_of reference (take f.count (variants_from reference first second h)) → m' ≡ put m i (marks_of reference (take f.count (variants_from reference first second h)))
-        → Marking reference first second m0 h0 m' f.heads (i + f.count) (total + k.score)
+        → Marking reference first second m0 h0 m' f.heads (i + f.count) (total + told_score k)
         × (length (items_from first second f.heads) < length (items_from first second h))
     marking_more d {f} {k} {m'} ef ek em =
         let n = first_count reference first second h in
@@ -87,7 +87,7 @@ module _ (reference first second : List ℕ) where
         let long = marks_length reference c ∙ next_long reference first second h n le in
         let fn : f.count ≡ n = ap (λ (z : Found). z.count) ef in
         let fh : f.heads ≡ (found_at reference first second h).heads = ap (λ (z : Found). z.heads) ef in
-        let ks : k.score ≡ score_of reference c = ap (λ (z : Marked). z.score) ek ∙ rw fn in
+        let ks : told_score k ≡ score_of reference c = ap told_score ek ∙ score_told reference (take f.count (variants_from reference first second h)) ∙ rw fn in
         let ms : m' ≡ put m i (marks_of reference c) = em ∙ rw fn in
         let inside : i ≤ length m = omega (arith, w.fits) in
         let q : i + n ≡ i + length (marks_of reference c) = omega arith in

@@ -3,7 +3,6 @@ pub mod CountingLaws
 pub mod Determines
 pub mod EntryCounts
 pub mod EveryLaws
-pub mod FillLaws
 pub mod MarkLaws
 pub mod RowLaws
 pub mod SkipLaws

@@ -32,11 +32,12 @@ use Rattle.matching.specs.Made.{best_answer}
 use Rattle.matching.proofs.BestOfLaws.{best_there}
 use Rattle.clusters.specs.declared.heads.Heads.{Heads}
 use Rattle.clusters.specs.declared.item.Item.{Item}
-use Rattle.clusters.specs.Heads.{Ready, entries_at, items_from, variants_from}
+use Rattle.clusters.specs.Heads.{entries_at, items_from, variants_from}
 use Rattle.clusters.specs.Item.{variant}
 use Rattle.marks.specs.Markable.{Markable}
-use Rattle.marks.specs.Marks.{QUESTION, decided?, marks_of, score_of, marked_of}
-use Rattle.marks.specs.Row.{SmallEntry, table_of}
+use Rattle.marks.specs.declared.mark.Marked.TheVariants.{Undecided, Scored}
+use Rattle.marks.specs.Marks.{QUESTION, decided?, marks_of, score_of, marked_of, told_score}
+use Rattle.marks.specs.Row.{row_of, SmallEntry}
 use Rattle.clusters.proofs.CardClusters.{SoundItem, items_sound, variants_plain, map_length}
 use Rattle.clusters.proofs.MergedLaws.{all_each}
 use Rattle.marks.proofs.RowLaws.{row_sound, row_small}
@@ -72,8 +73,16 @@ module _ (reference : List ℕ) (c : List Variant) where
       go true = chosen_few c (card_best reference c) a
       go false = omega arith
 
+  pub score_told : told_score (marked_of reference c) ≡ score_of reference c
+  score_told = go (decided? c)
+    where
+      go : (t : Bool) → told_score (pick t (Scored (pick t (score card_scoring c (card_best reference c)) 0)) Undecided)
+          ≡ pick t (score card_scoring c (card_best reference c)) 0
+      go true = refl
+      go false = refl
+
   pub marks_many : most < length c
-      → (marked_of reference c ≡ record { found = true; decided = false; score = 0 }) × (marks_of reference c ≡ replicate (length c) QUESTION)
+      → (marked_of reference c ≡ Undecided) × (marks_of reference c ≡ replicate (length c) QUESTION)
   marks_many h = let e : decided? c ≡ false = lt-leb (length c) most h in rw e (refl, refl)
 
   -- the choices stand first in their array
@@ -82,7 +91,7 @@ module _ (reference : List ℕ) (c : List Variant) where
   choices_first φ n e = take_at (map byte_of φ) _ n (map_length byte_of φ ∙ e)
 
   pub marks_few : length c ≤ most → let b = best_answer reference c in
-      (marked_of reference c ≡ record { found = true; decided = true; score = b.score }) × (marks_of reference c ≡ take (length c) b.choices)
+      (marked_of reference c ≡ Scored b.score) × (marks_of reference c ≡ take (length c) b.choices)
   marks_few h = rw (le-leb (length c) most h) (refl, sym (choices_first (card_best reference c) (length c) (best_long reference c)))
 
 module _ (reference first second : List ℕ) (h : Heads) (n : ℕ) (there : n ≤ length (items_from first second h)) where
@@ -108,7 +117,7 @@ module _ (reference first second : List ℕ) (h : Heads) (n : ℕ) (there : n �
     pub next_small : All SmallEntry (take n (items_from first second h))
     next_small = all_each (λ i s. row_small reference first second i s m.short m.ready.ready1.short m.ready.ready2.short) next next_sound
 
-    pub next_ready : n ≤ most → (t u : List ℕ) → u ≡ put t 0 (table_of (take n (items_from first second h))) → agree.Ready reference first second u n
+    pub next_ready : n ≤ most → (t u : List Row) → u ≡ put t 0 (map row_of (take n (items_from first second h))) → agree.Ready reference first second u n
     next_ready few t u eu =
         let e = length-take-le n (items_from first second h) there in
         rw eu (record {
@@ -119,26 +128,26 @@ module _ (reference first second : List ℕ) (h : Heads) (n : ℕ) (there : n �
 
   module _ (d e : List ℕ) (at : ℕ) where
     pub next_undecided : most < n → e ≡ put d at (replicate n QUESTION)
-        → (record { found = true; decided = false; score = 0 } ≡ marked_of reference (take n (variants_from reference first second h)))
+        → (Undecided ≡ marked_of reference (take n (variants_from reference first second h)))
         × (e ≡ put d at (marks_of reference (take n (variants_from reference first second h))))
     next_undecided many w =
         let k = marks_many reference (take n (variants_from reference first second h)) (omega (arith, next_long)) in
         (sym k.0, w ∙ ap (put d at) (sym (k.1 ∙ ap (λ (m : ℕ). replicate m QUESTION) next_long)))
 
-    pub next_decided : n ≤ most → (t u : List ℕ) → u ≡ put t 0 (table_of (take n (items_from first second h)))
+    pub next_decided : n ≤ most → (t u : List Row) → u ≡ put t 0 (map row_of (take n (items_from first second h)))
         → (b : Best) → b ≡ best_answer reference (table.variants_from reference first second u 0 n) → e ≡ put d at (take n b.choices)
-        → (record { found = true; decided = true; score = b.score } ≡ marked_of reference (take n (variants_from reference first second h)))
+        → (Scored b.score ≡ marked_of reference (take n (variants_from reference first second h)))
         × (e ≡ put d at (marks_of reference (take n (variants_from reference first second h))))
     next_decided few t u eu b eb w =
         let xs = take n (variants_from reference first second h) in
         let long = length-take-le n (items_from first second h) there in
         let same : table.variants_from reference first second u 0 n ≡ xs =
-        ap (λ (v : List ℕ). table.variants_from reference first second v 0 n) eu
-        ∙ ap (λ (m : ℕ). table.variants_from reference first second (put t 0 (table_of next)) 0 m) (sym long)
+        ap (λ (v : List Row). table.variants_from reference first second v 0 n) eu
+        ∙ ap (λ (m : ℕ). table.variants_from reference first second (put t 0 (map row_of next)) 0 m) (sym long)
         ∙ table_variants reference first second t next
         ∙ sym next_variants in
         let best : b ≡ best_answer reference xs = eb ∙ ap (best_answer reference) same in
         let k = marks_few reference xs (omega (arith, next_long)) in (
-          ap (λ (a : Best). record { found = true; decided = true; score = a.score }) best ∙ sym k.0,
+          ap (λ (a : Best). Scored a.score) best ∙ sym k.0,
           w ∙ ap (λ (a : Best). put d at (take n a.choices)) best ∙ ap (put d at) (sym (k.1 ∙ ap (λ (m : ℕ). take m (best_answer reference xs).choices) next_long)),
         )

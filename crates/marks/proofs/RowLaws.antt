@@ -2,13 +2,11 @@
 --     stand_ref, stand_first, stand_second
 --                                   where the bytes of REF, of the first ALT and of the second stand
 --     row_is                        a row, from what is read
---     list_first, list_second, numbers_are
---                                   the number of its list, and all its numbers
 --     row_variant, row_sound        the row of an entry is the entry, as matching reads it; that of a sound entry is sound
 --     row_small                     and its numbers fit into a table, where the reference and the text are no longer than they may be
 -- Assumes nothing.
 use mathlib.Core.Bool.{Bool, true, false}
-use mathlib.Core.List.{List, [], ◌∷◌}
+use mathlib.Core.List.{List}
 use mathlib.Core.Path.{◌≡◌, refl, sym, ap}
 use Prim.Native.Nat.{ℕ, zero, suc, ◌+◌, ◌-◌, ◌≤◌}
 use native.Mathlib.Omega.{arith}
@@ -28,7 +26,7 @@ use Rattle.vcf.specs.Entry.{bytes_of}
 use Rattle.vcf.specs.List.{longest_text}
 use Rattle.clusters.specs.declared.item.Item.{Item}
 use Rattle.clusters.specs.Item.{start_of, allele_of, text_of, variant, len_of}
-use Rattle.marks.specs.Row.{stand_of, row_of, SmallEntry, kind_of, numbers_of}
+use Rattle.marks.specs.Row.{stand_of, row_of, SmallEntry}
 use Rattle.clusters.proofs.CardClusters.{SoundItem}
 
 -- Bytes in the list's text, of an allele that takes its entry's span: an ALT.
@@ -48,17 +46,6 @@ stand_second e k h = let n : k ≡ suc (suc (k - 2)) = omega arith in rw n
 pub row_is : (i : Item) {p : Place} {a b : Allele} → p ≡ place_of i.entry.pos → a ≡ stand_of i.entry i.entry.copy0 → b ≡ stand_of i.entry i.entry.copy1
     → ◌≡◌ {A = Row} record { first = i.side; start = p.0; len = i.entry.reference.len; weight = 1; copy0 = a; copy1 = b } (row_of i)
 row_is i ep ea eb = let e = ap (λ (q : Place). q.0) ep in cc
-
-pub list_first : {b : Bool} {n : ℕ} → b ≡ true → n ≡ 1 → n ≡ pick b 1 2
-list_first e n = rw e n
-
-pub list_second : {b : Bool} {n : ℕ} → b ≡ false → n ≡ 2 → n ≡ pick b 1 2
-list_second e n = rw e n
-
-pub numbers_are : (r : Row) {list start len weight kind0 at0 len0 kind1 at1 len1 : ℕ} → list ≡ pick r.first 1 2 → start ≡ r.start → len ≡ r.len → weight ≡ r.weight
-    → kind0 ≡ kind_of r.copy0 → at0 ≡ r.copy0.at → len0 ≡ r.copy0.len → kind1 ≡ kind_of r.copy1 → at1 ≡ r.copy1.at → len1 ≡ r.copy1.len
-    → list ∷ start ∷ len ∷ weight ∷ kind0 ∷ at0 ∷ len0 ∷ kind1 ∷ at1 ∷ len1 ∷ [] ≡ numbers_of r
-numbers_are r e0 e1 e2 e3 e4 e5 e6 e7 e8 e9 = cc
 
 -- the bases that stand where a row says are the allele's
 stand_bases : (reference text : List ℕ) (e : Entry) (k : ℕ) → allele_bases reference text (stand_of e k) ≡ allele_of reference text e k

@@ -20,8 +20,9 @@ use Rattle.clusters.specs.declared.cluster.Found.{Found}
 use Rattle.marks.specs.declared.skip.Skipped.{Skipped}
 use Rattle.clusters.specs.declared.heads.Heads.{Heads}
 use Rattle.marks.specs.declared.mark.Marked.{Marked}
+use Rattle.marks.specs.declared.mark.Marked.TheVariants.{NoCluster}
 use Rattle.clusters.specs.Heads.{Ready, items_from, done?, variants_from, first_count, found_at}
-use Rattle.marks.specs.Marks.{marks_of, marked_of, not_found, clusters_from, first_entry, cluster_at, asked_for, marks_after}
+use Rattle.marks.specs.Marks.{marks_of, marked_of, clusters_from, first_entry, cluster_at, asked_for, marks_after}
 use Rattle.marks.specs.Skip.{skipped, skip_clusters}
 use Rattle.marks.proofs.EveryLaws.{cluster, next_cluster}
 use Rattle.marks.proofs.MarkLaws.{next_long}
@@ -110,7 +111,7 @@ module _ (reference first second : List ℕ) where
   -- What is told of cluster k and the marks then, in the form that the code has: e is what the marks m became.
   module _ (k : ℕ) (h : Heads) (m : List ℕ) (g : Skipped) (at : g ≡ skip_clusters reference first second k h 0) where
     pub asked_none : done? first second g.heads ≡ true
-        → (not_found ≡ asked_for reference (clusters_from reference first second h) k) × (m ≡ marks_after reference (clusters_from reference first second h) k m)
+        → (NoCluster ≡ asked_for reference (clusters_from reference first second h) k) × (m ≡ marks_after reference (clusters_from reference first second h) k m)
     asked_none d =
         let cs = clusters_from reference first second h in
         let past = skip_past k h 0 (rw at at d) in

@@ -1,13 +1,12 @@
 -- Laws of the first elements of a list.
 --     take_map, all_take     of a list made element by element; what is so of each element
---     put_part               the first n elements, written into room
+--     take_step              the first of them, and those behind it
 -- Assumes nothing.
 use mathlib.Core.List.{List, [], ◌∷◌, map}
 use mathlib.Core.Path.{◌≡◌, refl, ap}
-use Prim.Native.Nat.{ℕ, zero, suc, ◌≤◌}
-use lib.ListN.{length, take}
-use lib.Seq.{paste, length-take-le}
-use Rattle.bases.specs.Put.{put}
+use Prim.Native.Nat.{ℕ, zero, suc, ◌+◌}
+use native.Mathlib.Omega.{arith}
+use lib.ListN.{take}
 use Rattle.donors.specs.Apart.{All}
 
 pub take_map : {X Y : Type 0} (f : X → Y) (n : ℕ) (xs : List X) → take n (map f xs) ≡ map f (take n xs)
@@ -21,5 +20,5 @@ module _ {X : Type 0} (P : X → Type 0) where
   all_take (suc n) [] a = tt
   all_take (suc n) (x ∷ xs) a = (a.0, all_take n xs a.1)
 
-pub put_part : (d : List ℕ) (at : ℕ) (s : List ℕ) (n : ℕ) → n ≤ length s → paste d at s n ≡ put d at (take n s)
-put_part d at s n h = rw (length-take-le n s h)
+pub take_step : {X : Type 0} (n m : ℕ) {xs ys : List X} {x : X} → xs ≡ x ∷ ys → m + 1 ≡ n → take n xs ≡ x ∷ take m ys
+take_step n m e f = let g : n ≡ suc m = omega arith in rw (g, e)

@@ -1,6 +1,6 @@
 -- Marks. Document 01: one byte an entry in merged order: `+`, `-`, `0`, or `?` for every entry of a cluster of 13 or more.
 -- Assumes nothing: these are definitions.
-use Rattle.std.specs.Prelude.{Bool, true, false, List, [], ◌∷◌, map, ℕ, ◌+◌, leb, ltb, length, get_or, take, replicate}
+use Rattle.std.specs.Prelude.{Bool, List, [], ◌∷◌, map, ℕ, ◌+◌, leb, ltb, length, get_or, take, replicate}
 use Rattle.bases.specs.Pick.{pick}
 use Rattle.bases.specs.Put.{put}
 use Rattle.donors.specs.Choice.{Variant}
@@ -11,6 +11,7 @@ use Rattle.matching.specs.Card.{card_scoring, card_best}
 use Rattle.matching.specs.Cut.{join}
 use Rattle.clusters.specs.declared.heads.Heads.{Heads}
 use Rattle.marks.specs.declared.mark.Marked.{Marked}
+use Rattle.marks.specs.declared.mark.Marked.TheVariants.{NoCluster, Undecided, Scored}
 use Rattle.clusters.specs.Heads.{variants_from}
 use Rattle.clusters.specs.Merged.{merged_variants}
 use Rattle.clusters.specs.Plan.{card_plan}
@@ -31,12 +32,15 @@ marks_of reference c = pick (decided? c) (map byte_of (card_best reference c)) (
 abbrev pub score_of : List ℕ → List Variant → ℕ
 score_of reference c = pick (decided? c) (score card_scoring c (card_best reference c)) 0
 
--- What is told of a cluster that was marked; and where there is no such cluster.
+-- What is told of a cluster that was marked.
 abbrev pub marked_of : List ℕ → List Variant → Marked
-marked_of reference c = record { found = true; decided = decided? c; score = score_of reference c }
+marked_of reference c = pick (decided? c) (Scored (score_of reference c)) Undecided
 
-abbrev pub not_found : Marked
-not_found = record { found = false; decided = false; score = 0 }
+-- The score that is told; 0 where none is.
+abbrev pub told_score : Marked → ℕ
+told_score NoCluster = 0
+told_score Undecided = 0
+told_score (Scored s) = s
 
 -- The clusters of two lists.
 abbrev pub clusters_of : List ℕ → List ℕ → List ℕ → List (List Variant)
@@ -59,7 +63,7 @@ is_cluster? cs k = ltb k (length cs)
 
 -- What is told where cluster k is asked for,
 abbrev pub asked_for : List ℕ → List (List Variant) → ℕ → Marked
-asked_for reference cs k = pick (is_cluster? cs k) (marked_of reference (cluster_at cs k)) not_found
+asked_for reference cs k = pick (is_cluster? cs k) (marked_of reference (cluster_at cs k)) NoCluster
 
 -- and the marks then: only those of its entries are written, and none where there is no such cluster.
 abbrev pub marks_after : List ℕ → List (List Variant) → ℕ → List ℕ → List ℕ

@@ -1,7 +1,6 @@
--- Entries in merged order as rows of the table that the search reads: ten numbers an entry.
+-- Entries in merged order as rows of the table that the search reads.
 -- Assumes nothing: these are definitions.
-use Rattle.std.specs.Prelude.{true, false, List, [], ◌∷◌, ◌++◌, ℕ, ◌^◌, ◌≤◌, ◌<◌}
-use Rattle.bases.specs.Pick.{pick}
+use Rattle.std.specs.Prelude.{true, false, ℕ, ◌^◌, ◌≤◌, ◌<◌}
 use Rattle.donors.specs.declared.table.Allele.{Allele}
 use Rattle.donors.specs.declared.table.Row.{Row}
 use Rattle.vcf.specs.declared.entry.Entry.{Entry}
@@ -43,19 +42,3 @@ pub record Small (r : Row) : Type 0 where
 -- The same of an entry's row; and there is a POS.
 abbrev pub SmallEntry : Item → Type 0
 SmallEntry i = (1 ≤ i.entry.pos.0) × Small (row_of i)
-
--- The first number of an allele: 2 where it takes its entry's span, and 1 more where its bytes stand in the text.
-abbrev pub kind_of : Allele → ℕ
-kind_of a = pick a.room (pick a.text 3 2) (pick a.text 1 0)
-
--- A row as numbers: its list is 1 or 2.
-abbrev pub numbers_of : Row → List ℕ
-numbers_of r =
-    pick r.first 1 2 ∷ r.start ∷ r.len ∷ r.weight
-    ∷ kind_of r.copy0 ∷ r.copy0.at ∷ r.copy0.len
-    ∷ kind_of r.copy1 ∷ r.copy1.at ∷ r.copy1.len ∷ []
-
--- Entries as a table, row behind row.
-unfoldable pub table_of : List Item → List ℕ
-table_of [] = []
-table_of (i ∷ is) = numbers_of (row_of i) ++ table_of is

@@ -1,13 +1,14 @@
 // What marks count: the entries marked `+` or `-`, those marked `0`, and those marked `?`; over all marks, and in each of two lists.
 ghost use Rattle.std.specs.Prelude.{◌≡◌, ◌≤◌, length, take};
-ghost use Rattle.marks.specs.Counts.{one, matched?, add_mark, add_entry, count_all, counts_of, most_entries, Few};
+ghost use Rattle.marks.specs.Counts.{matched?, add_mark, add_entry, count_all, counts_of, most_entries, Few};
 ghost use Rattle.clusters.specs.Heads.{Readable, start_heads};
 ghost use Rattle.clusters.specs.Merged.{merged_items};
 
-use clusters::heads::{after, is_done, next_item, start_heads};
+use clusters::heads::start_heads;
+use clusters::merged::merged_from;
 
 // The three counts.
-#[derive(Clone, Copy)]
+#[derive(Clone, Copy, Default)]
 pub struct Count {
     pub matched: usize,
     pub unmatched: usize,
@@ -15,24 +16,17 @@ pub struct Count {
 }
 
 // The six counts: those of list 1 and those of list 2.
-#[derive(Clone, Copy)]
+#[derive(Clone, Copy, Default)]
 pub struct Counts {
     pub first: Count,
     pub second: Count,
-}
-
-// One where the test holds.
-fn one(test: bool) -> usize
-    ensures { result ≡ one test }
-{
-    if test { 1 } else { 0 }
 }
 
 // Is this the mark of a matched entry?
 fn is_matched(mark: u8) -> bool
     ensures { result ≡ matched? mark }
 {
-    (mark == b'+') | (mark == b'-')
+    matches!(mark, b'+' | b'-')
 }
 
 // The counts with one mark more.
@@ -41,27 +35,20 @@ fn add_mark(count: Count, mark: u8) -> Count
     ensures { result ≡ add_mark count mark }
 {
     Count {
-        matched: count.matched + one(is_matched(mark)),
-        unmatched: count.unmatched + one(mark == b'0'),
-        undecided: count.undecided + one(mark == b'?'),
+        matched: count.matched + usize::from(is_matched(mark)),
+        unmatched: count.unmatched + usize::from(mark == b'0'),
+        undecided: count.undecided + usize::from(mark == b'?'),
     }
 }
 
-// The counts of the first n marks.
-pub fn count_all(marks: &[u8], n: usize) -> Count
-    requires { (n ≤ length marks.now)
-        × (n ≤ most_entries) }
-    ensures { result ≡ count_all (take n marks.now) }
+// The counts of the marks.
+pub fn count_all(marks: &[u8]) -> Count
+    requires { length marks.now ≤ most_entries }
+    ensures { result ≡ count_all marks.now }
 {
-    let mut count = Count {
-        matched: 0,
-        unmatched: 0,
-        undecided: 0,
-    };
-    let mut i: usize = 0;
-    while i < n {
-        count = add_mark(count, marks[i]);
-        i += 1;
+    let mut count = Count::default();
+    for mark in marks {
+        count = add_mark(count, *mark);
     }
     count
 }
@@ -72,17 +59,16 @@ fn add_entry(counts: Counts, side: bool, mark: u8) -> Counts
         × Few counts.second }
     ensures { result ≡ add_entry counts side mark }
 {
-    let first = counts.first;
-    let second = counts.second;
     if side {
-        return Counts {
-            first: add_mark(first, mark),
-            second: second,
-        };
-    }
-    Counts {
-        first: first,
-        second: add_mark(second, mark),
+        Counts {
+            first: add_mark(counts.first, mark),
+            ..counts
+        }
+    } else {
+        Counts {
+            second: add_mark(counts.second, mark),
+            ..counts
+        }
     }
 }
 
@@ -93,22 +79,10 @@ pub fn count_lists(first: &[u8], second: &[u8], marks: &[u8]) -> Counts
         × (length (merged_items first.now second.now) ≤ most_entries) }
     ensures { result ≡ counts_of (merged_items first.now second.now) marks.now }
 {
-    let none = Count {
-        matched: 0,
-        unmatched: 0,
-        undecided: 0,
-    };
-    let mut counts = Counts {
-        first: none,
-        second: none,
-    };
-    let mut heads = start_heads(first, second);
-    let mut i: usize = 0;
-    while !is_done(first, second, heads) {
-        let item = next_item(first, second, heads);
-        counts = add_entry(counts, item.side, marks[i]);
-        heads = after(first, second, heads, item.side);
-        i += 1;
+    let mut counts = Counts::default();
+    let heads = start_heads(first, second);
+    for (item, mark) in merged_from(first, second, heads).zip(marks) {
+        counts = add_entry(counts, item.side, *mark);
     }
     counts
 }

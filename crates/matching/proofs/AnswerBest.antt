@@ -3,20 +3,21 @@
 --     search_start    the search from there on answers the best choices
 --     best_answer_lem     of plain entries in merged order, the choices in the answer are the best pair, and the score is the number of chosen entries in both lists
 -- Assumes nothing.
+use Rattle.std.specs.Prelude.{Some, None}
 use mathlib.Core.List.{List, []}
 use mathlib.Core.Path.{◌≡◌, sym, ap, ◌∙◌, subst}
 use Prim.Native.Nat.{ℕ, ◌-◌}
 use native.Mathlib.Omega.{arith}
 use lib.ListN.{length, replicate}
+use Rattle.donors.specs.declared.table.Row.{Row}
 use Rattle.donors.specs.Apart.{All}
 use Rattle.donors.specs.Choice.{Choice, Variant, Plain, card_rules}
 use Rattle.donors.specs.Items.{Sorted, Solid}
 use Rattle.donors.specs.Table.{most, choices_from}
-use Rattle.matching.specs.declared.answer.Best.{Best}
-use Rattle.matching.specs.Answer.{nothing_found, answer_of, improved}
+use Rattle.matching.specs.Answer.{answer_of, improved}
 use Rattle.matching.specs.BestOf.{keep?}
 use Rattle.matching.specs.Card.{card_scoring, card_finite, card_best, chosen_count, BestPair}
-use Rattle.matching.specs.Made.{card_search, answer_from, best_answer, weights_to, Made}
+use Rattle.matching.specs.Made.{answer_from, best_answer, weights_to, Made}
 use Rattle.matching.proofs.AnswerLaws.{array_choices}
 use Rattle.matching.proofs.BestOfLaws.{search_any}
 use Rattle.matching.proofs.CardBest.{score_words, card_best_lem}
@@ -35,7 +36,7 @@ best_answer_lem R xs plain solid sorted =
     subst (λ (φ : List Choice). BestPair R xs φ × ((best_answer R xs).score ≡ chosen_count xs φ)) e (b, score_words xs plain (card_best R xs))
 
 -- the entries of a table, and nothing is chosen yet
-module _ (reference first second t : List ℕ) (n : ℕ) where
+module _ (reference first second : List ℕ) (t : List Row) (n : ℕ) where
   abbrev all : List Variant
   all = entries reference first second t 0 n
 
@@ -46,9 +47,8 @@ module _ (reference first second t : List ℕ) (n : ℕ) where
   pub made_start : (top : ℕ) → top ≡ weights_to t n → Made all (choices_from (replicate most 48) 0 (n - n)) (replicate most 48) top
   made_start top e = rw (start, e, weights_rows reference first second t n) (made_none all)
 
-  pub search_start : (best : Best) → best ≡ nothing_found
-      → improved best (answer_from reference all n (choices_from (replicate most 48) 0 (n - n))) ≡ best_answer reference all
-  search_start best e =
-      rw (e, start) (nothing_improved all (card_search reference all n [])
+  pub search_start : improved None (answer_from reference all n (choices_from (replicate most 48) 0 (n - n))) ≡ Some (best_answer reference all)
+  search_start =
+      rw start (nothing_improved (answer_from reference all n [])
       ∙ ap (λ (k : ℕ). answer_from reference all k []) (sym (entries_length reference first second t 0 n))
       ∙ ap (answer_of all) (search_any card_rules card_scoring reference all card_finite (keep? card_rules card_finite all) (legal_keeps card_rules card_finite reference all)))

@@ -2,8 +2,6 @@
 -- Assumes nothing.
 use mathlib.Core.Path.{sym, ◌∙◌}
 use Rattle.bases.proofs.Determines.{OneResult}
-use Rattle.matching.proofs.answer.nothing.Kinds as nothing_kinds
-use Rattle.matching.proofs.answer.nothing.Reads as nothing
 use Rattle.matching.proofs.answer.can_beat.Kinds as can_beat_kinds
 use Rattle.matching.proofs.answer.can_beat.Reads as can_beat
 use Rattle.matching.proofs.fits.fits.Kinds as fits_kinds
@@ -12,9 +10,6 @@ use Rattle.matching.proofs.fits.is_tried.Kinds as is_tried_kinds
 use Rattle.matching.proofs.fits.is_tried.Reads as is_tried
 use Rattle.matching.proofs.search.best_choices.Kinds as best_choices_kinds
 use Rattle.matching.proofs.search.best_choices.Reads as best_choices
-
-pub nothing_determines : OneResult 0 nothing_kinds.ps nothing_kinds.r nothing.Post
-nothing_determines κs a z z' e e' p q = p ∙ sym q
 
 pub can_beat_determines : OneResult 0 can_beat_kinds.ps can_beat_kinds.r can_beat.Post
 can_beat_determines κs a z z' e e' p q = p ∙ sym q

@@ -14,6 +14,7 @@ use borrow.Author.Tests.{eq-eqb}
 use lib.ListN.{length}
 use Rattle.bases.proofs.TestLaws.{is_true}
 use Rattle.bases.specs.Pick.{pick}
+use Rattle.donors.specs.declared.table.Row.{Row}
 use Rattle.donors.specs.Agree.{one_donor?}
 use Rattle.donors.specs.Choice.{Copy, copy0, copy1, Variant, card_rules}
 use Rattle.donors.specs.Table.{row_at, variant_of, variants_from, choices_from}
@@ -22,7 +23,7 @@ use Rattle.matching.specs.Card.{card_finite}
 use Rattle.matching.specs.Made.{Kept, card_legal?}
 use Rattle.matching.proofs.AnswerLaws.{choices_length}
 
-module _ (reference first second t : List ℕ) where
+module _ (reference first second : List ℕ) (t : List Row) where
   abbrev pub entries : ℕ → ℕ → List Variant
   entries i n = variants_from reference first second t i n
 

@@ -19,6 +19,7 @@ use lib.Dec.{T, leb, leb→le, le→leb}
 use lib.ListN.{length, get_or}
 use Rattle.bases.specs.Pick.{pick}
 use Rattle.bases.proofs.TestLaws.{both, one_test}
+use Rattle.donors.specs.declared.table.Row.{Row}
 use Rattle.donors.specs.Apart.{Chain}
 use Rattle.donors.specs.Choice.{Choice, Copy, copy0, copy1, Variant, card_rules}
 use Rattle.donors.specs.Donor.{Edit, end}
@@ -52,7 +53,7 @@ and_not s t e = rw e
 pub and_so : (s t u : Bool) → s ≡ true → u ≡ t → u ≡ s && t
 and_so s t u e f = rw e f
 
-module _ (t φ : List ℕ) (j : Bool) (h : Copy) (n i : ℕ) (l : 0 < n) (e : i ≡ n - 1) where
+module _ (t : List Row) (φ : List ℕ) (j : Bool) (h : Copy) (n i : ℕ) (l : 0 < n) (e : i ≡ n - 1) where
   end_step : end_before t φ j h n ≡ pick (takes_row? t φ j h i) ((row_at t i).start + (row_at t i).len) (end_before t φ j h i)
   unfolding end_before
   end_step = let f : n ≡ suc i = omega arith in rw f
@@ -63,18 +64,18 @@ module _ (t φ : List ℕ) (j : Bool) (h : Copy) (n i : ℕ) (l : 0 < n) (e : i 
   pub end_earlier : takes_row? t φ j h i ≡ false → end_before t φ j h n ≡ end_before t φ j h i
   end_earlier u = end_step ∙ rw u
 
-pub end_none : (t φ : List ℕ) (j : Bool) (h : Copy) (n : ℕ) → n ≤ 0 → end_before t φ j h n ≡ 0
+pub end_none : (t : List Row) (φ : List ℕ) (j : Bool) (h : Copy) (n : ℕ) → n ≤ 0 → end_before t φ j h n ≡ 0
 unfolding end_before
 end_none t φ j h n l = let f : n ≡ 0 = omega arith in rw f
 
-module _ (t φ : List ℕ) (n : ℕ) (c : Choice) (h : Copy) where
+module _ (t : List Row) (φ : List ℕ) (n : ℕ) (c : Choice) (h : Copy) where
   pub no_room : room_at? (row_at t n) c h ≡ false → true ≡ fits_on? t φ n c h
   no_room e = rw e
 
   pub with_room : (e s : ℕ) → room_at? (row_at t n) c h ≡ true → e ≡ end_before t φ (row_at t n).first h n → s ≡ (row_at t n).start → leb e s ≡ fits_on? t φ n c h
   with_room e s u f g = rw (u, f, g)
 
-module _ (reference first second t : List ℕ) where
+module _ (reference first second : List ℕ) (t : List Row) where
   -- the entries of the rows before row n
   abbrev rows : ℕ → List Variant
   rows n = entries reference first second t 0 n

@@ -14,6 +14,7 @@ use native.Mathlib.Omega.{arith}
 use lib.Dec.{T}
 use lib.ListN.{length, drop, set, replicate, length-append}
 use lib.Seq.{drop_at, drop-append-add}
+use Rattle.donors.specs.declared.table.Row.{Row}
 use Rattle.donors.specs.Agree.{Ready}
 use Rattle.donors.specs.Choice.{Choice, plus, minus, out, Copy, Variant, chosen?, card_rules}
 use Rattle.donors.specs.Rules.{edits}
@@ -48,13 +49,13 @@ pub made_back : (xs : List Variant) (φ : List Choice) (choices : List ℕ) (top
 made_back xs φ choices top b k m e h = rw m.array (array_back φ b k e h)
 
 -- What is carried along, with `left` of the table's n entries left.
-pub record Carried (reference first second t choices : List ℕ) (top n left : ℕ) : Type 0 where
+pub record Carried (reference first second : List ℕ) (t : List Row) (choices : List ℕ) (top n left : ℕ) : Type 0 where
   pub few : n ≤ most
   pub enough : left ≤ n
   pub made : Made (variants_from reference first second t 0 n) (choices_from choices 0 (n - left)) choices top
 
 -- The search's contract asks for it.
-pub carried : {reference first second t choices : List ℕ} {top n left : ℕ} {P : Type 0}
+pub carried : {reference first second : List ℕ} {t : List Row} {choices : List ℕ} {top n left : ℕ} {P : Type 0}
     → Ready reference first second t n × (left ≤ n) × Made (variants_from reference first second t 0 n) (choices_from choices 0 (n - left)) choices top × P
     → Carried reference first second t choices top n left
 carried p = record { few = p.0.few; enough = p.1; made = p.2 }

@@ -16,10 +16,10 @@ use native.Mathlib.Omega.{arith}
 use lib.Dec.{T}
 use lib.ListN.{length, set, length-append}
 use Rattle.bases.proofs.TestLaws.{of_true, both, is_true}
+use Rattle.donors.specs.declared.table.Row.{Row}
 use Rattle.donors.specs.Choice.{Choice, plus, minus, out, Variant, chosen?, card_rules}
 use Rattle.donors.specs.Table.{row_at, choices_from}
-use Rattle.matching.specs.declared.answer.Best.{Best}
-use Rattle.matching.specs.Answer.{byte_of, can_beat?, improved}
+use Rattle.matching.specs.Answer.{byte_of, Answer, can_beat?, improved}
 use Rattle.matching.specs.BestOf.{keep?}
 use Rattle.matching.specs.Card.{card_finite}
 use Rattle.matching.specs.Fits.{fits?}
@@ -32,7 +32,7 @@ use Rattle.matching.proofs.MadeLaws.{Carried, made_reads, made_back, made_weight
 use Rattle.matching.proofs.StepLaws.{below, below_kept, below_dropped, below_most, search_three}
 
 -- the choices made are those of the entries before row n - left
-module _ {reference first second t choices : List ℕ} {top n left : ℕ} (m : Carried reference first second t choices top n left) (some_left : left ≡ 0 → ⊥) where
+module _ {reference first second : List ℕ} {t : List Row} {choices : List ℕ} {top n left : ℕ} (m : Carried reference first second t choices top n left) (some_left : left ≡ 0 → ⊥) where
   -- the entries that the search is over, and the choices made
   abbrev all : List Variant
   all = entries reference first second t 0 n
@@ -44,7 +44,7 @@ module _ {reference first second t choices : List ℕ} {top n left : ℕ} (m : C
   many = choices_length choices 0 (n - left)
 
   -- the answer that goes on from the choices made
-  abbrev answer : Best
+  abbrev answer : Answer
   answer = answer_from reference all left φ
 
   abbrev more : Choice → List Choice
@@ -93,25 +93,25 @@ module _ {reference first second t choices : List ℕ} {top n left : ℕ} (m : C
   skipped_reads = made_reads all (more out) choices _ (n - (left - 1)) skipped (longer out)
 
   -- the answer below a choice
-  abbrev answer_below : Choice → Best
+  abbrev answer_below : Choice → Answer
   answer_below c = below reference all (left - 1) φ c
 
-  abbrev pub Went : Choice → Best → List ℕ → Best → Type 0
+  abbrev pub Went : Choice → Answer → List ℕ → Answer → Type 0
   Went c best now r = (now ≡ choices) × (r ≡ improved best (answer_below c))
 
-  low : (c : Choice) (s : ℕ) (best : Best) (now : List ℕ) → Made all (more c) now s → can_beat? s best ≡ false → best ≡ improved best (answer_below c)
-  low c s best now k f = sym (improved_low s best (answer_below c) f (omega (arith, k.counted, below_most reference all (left - 1) φ c)))
+  low : (c : Choice) (s : ℕ) (best : Answer) (now : List ℕ) → Made all (more c) now s → can_beat? s best ≡ false → best ≡ improved best (answer_below c)
+  low c s best now k f = sym (improved_low s best (answer_below c) f (rw k.counted (below_most reference all (left - 1) φ c)))
 
   -- the array as it stands now, and the entry chosen
   module _ (now : List ℕ) (same : now ≡ choices) (c : Choice) (u : T (chosen? c)) where
-    pub tried : (best : Best) {v : Bool} → v ≡ can_beat? top best && fits? t now (n - left) c → v ≡ true → T (can_beat? top best) × (true ≡ fits? t now (n - left) c)
+    pub tried : (best : Answer) {v : Bool} → v ≡ can_beat? top best && fits? t now (n - left) c → v ≡ true → T (can_beat? top best) × (true ≡ fits? t now (n - left) c)
     tried best e v = let b = (both (can_beat? top best) (fits? t now (n - left) c)).0 (of_true (sym e ∙ v)) in (b.0, sym (is_true (fits? t now (n - left) c) b.1))
 
     pub made_taken : {v : Bool} → v ≡ fits? t now (n - left) c → v ≡ true
         → Made all (choices_from (set now (n - left) (byte_of c)) 0 (n - (left - 1))) (set now (n - left) (byte_of c)) top
     made_taken f v = let g : fits? t choices (n - left) c ≡ true = rw same at (sym f ∙ v) in rw (same, taken_reads c u g) (taken c u g)
 
-    pub went_taken : {v : Bool} → v ≡ fits? t now (n - left) c → v ≡ true → (best r : Best) (then : List ℕ)
+    pub went_taken : {v : Bool} → v ≡ fits? t now (n - left) c → v ≡ true → (best r : Answer) (then : List ℕ)
         → r ≡ improved best (answer_from reference all (left - 1) (choices_from (set now (n - left) (byte_of c)) 0 (n - (left - 1))))
         → then ≡ set (set now (n - left) (byte_of c)) (n - left) 48 → Went c best then r
     went_taken f v best r then e d =
@@ -121,7 +121,7 @@ module _ {reference first second t choices : List ℕ} {top n left : ℕ} (m : C
         )
 
     -- it is not tried, and all stays as it was
-    module _ (best r : Best) (then : List ℕ) (e : r ≡ best) (d : then ≡ now) where
+    module _ (best r : Answer) (then : List ℕ) (e : r ≡ best) (d : then ≡ now) where
       pub went_unfit : {v : Bool} → v ≡ fits? t now (n - left) c → v ≡ false → Went c best then r
       went_unfit f v = (d ∙ same, e ∙ sym (ap (improved best) (below_dropped reference all (left - 1) φ c (fitting c false (rw same at (sym f ∙ v))))))
 
@@ -142,13 +142,13 @@ module _ {reference first second t choices : List ℕ} {top n left : ℕ} (m : C
       pub made_skipped : Made all (choices_from now 0 (n - (left - 1))) now (top - w)
       made_skipped = rw (same, is, skipped_reads) skipped
 
-      pub went_skipped : (best r : Best) → r ≡ improved best (answer_from reference all (left - 1) (choices_from now 0 (n - (left - 1)))) → Went out best now r
+      pub went_skipped : (best r : Answer) → r ≡ improved best (answer_from reference all (left - 1) (choices_from now 0 (n - (left - 1)))) → Went out best now r
       went_skipped best r e = (same, e ∙ rw (same, skipped_reads) (ap (improved best) (sym (below_kept reference all (left - 1) φ out (fitting out true refl)))))
 
-      pub went_unskipped : (best : Best) {v : Bool} → v ≡ can_beat? (top - w) best → v ≡ false → Went out best now best
+      pub went_unskipped : (best : Answer) {v : Bool} → v ≡ can_beat? (top - w) best → v ≡ false → Went out best now best
       went_unskipped best f v = (same, low out (top - (row_at t (n - left)).weight) best choices skipped (rw is at (sym f ∙ v)))
 
-  pub search_went : (b0 b1 b2 b3 : Best) (c1 c2 c3 : List ℕ) → Went plus b0 c1 b1 → Went minus b1 c2 b2 → Went out b2 c3 b3 → b3 ≡ improved b0 answer
+  pub search_went : (b0 b1 b2 b3 : Answer) (c1 c2 c3 : List ℕ) → Went plus b0 c1 b1 → Went minus b1 c2 b2 → Went out b2 c3 b3 → b3 ≡ improved b0 answer
   search_went b0 b1 b2 b3 c1 c2 c3 w1 w2 w3 =
       let k : suc (left - 1) ≡ left = omega arith in
       w3.1 ∙ rw (w2.1, w1.1) (sym (search_three reference all (left - 1) φ b0)) ∙ ap (λ (k : ℕ). improved b0 (answer_from reference all k φ)) k

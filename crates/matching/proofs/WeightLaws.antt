@@ -7,16 +7,17 @@ use mathlib.Core.Path.{◌≡◌, refl, sym, ap, ◌∙◌}
 use Prim.Native.Nat.{ℕ, zero, suc, ◌+◌, ◌-◌}
 use native.Mathlib.Numerals.{add-one}
 use native.Mathlib.Omega.{arith}
+use Rattle.donors.specs.declared.table.Row.{Row}
 use Rattle.donors.specs.Choice.{Variant}
 use Rattle.donors.specs.Table.{row_at, variants_from}
 use Rattle.matching.specs.Made.{weights, weights_to}
 use Rattle.matching.proofs.EntryLaws.{entries, entry_at, entries_at_lem}
 
-pub weights_start : (t : List ℕ) → 0 ≡ weights_to t 0
+pub weights_start : (t : List Row) → 0 ≡ weights_to t 0
 unfolding weights_to
 weights_start t = refl
 
-pub weights_more : (t : List ℕ) (n : ℕ) → weights_to t (n + 1) ≡ weights_to t n + (row_at t n).weight
+pub weights_more : (t : List Row) (n : ℕ) → weights_to t (n + 1) ≡ weights_to t n + (row_at t n).weight
 unfolding weights_to
 weights_more t n = rw (add-one n)
 
@@ -25,7 +26,7 @@ unfolding weights
 weights_last [] x = omega arith
 weights_last (y ∷ xs) x = omega (arith, weights_last xs x)
 
-pub weights_rows : (reference first second t : List ℕ) (n : ℕ) → weights_to t n ≡ weights (entries reference first second t 0 n)
+pub weights_rows : (reference first second : List ℕ) (t : List Row) (n : ℕ) → weights_to t n ≡ weights (entries reference first second t 0 n)
 unfolding weights_to weights variants_from
 weights_rows reference first second t zero = refl
 weights_rows reference first second t (suc n) =

@@ -2,10 +2,11 @@
 -- Assumes nothing: these are definitions.
 use Rattle.std.specs.Prelude.{Bool, List, [], ◌∷◌, ◌≡◌, ℕ, zero, suc, ◌+◌, T, length, drop}
 use Rattle.std.proofs.Math.Option.{Option}
+use Rattle.donors.specs.declared.table.Row.{Row}
 use Rattle.donors.specs.Choice.{Choice, Variant, card_rules}
 use Rattle.donors.specs.Table.{row_at}
 use Rattle.matching.specs.declared.answer.Best.{Best}
-use Rattle.matching.specs.Answer.{array_of, answer_of, these_choices}
+use Rattle.matching.specs.Answer.{array_of, Answer, answer_of, these_choices}
 use Rattle.matching.specs.Best.{score}
 use Rattle.matching.specs.BestOf.{keep?, legal?}
 use Rattle.matching.specs.Card.{rank_of, card_scoring, card_finite, card_best}
@@ -24,10 +25,10 @@ abbrev pub card_search : List ℕ → List Variant → ℕ → List Choice → O
 card_search R xs left φ = search rank_of (score card_scoring xs) card_finite.choices (keep? card_rules card_finite xs) (card_legal? R xs) left φ
 
 -- The same, as the code answers.
-abbrev pub answer_from : List ℕ → List Variant → ℕ → List Choice → Best
+abbrev pub answer_from : List ℕ → List Variant → ℕ → List Choice → Answer
 answer_from R xs left φ = answer_of xs (card_search R xs left φ)
 
--- The answer that gives the best choices for the entries.
+-- The best that gives the best choices for the entries.
 abbrev pub best_answer : List ℕ → List Variant → Best
 best_answer R xs = these_choices xs (card_best R xs)
 
@@ -37,7 +38,7 @@ weights [] = 0
 weights (x ∷ xs) = x.weight + weights xs
 
 -- and those of the first n rows of a table.
-unfoldable pub weights_to : List ℕ → ℕ → ℕ
+unfoldable pub weights_to : List Row → ℕ → ℕ
 weights_to t zero = 0
 weights_to t (suc n) = weights_to t n + (row_at t n).weight
 

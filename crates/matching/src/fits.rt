@@ -6,67 +6,66 @@ ghost use Rattle.matching.specs.Answer.{can_beat?};
 ghost use Rattle.matching.specs.Fits.{end_before, fits_on?, fits?};
 
 use crate::answer::{Best, can_beat};
-use donors::table::{LEN, LIST, MOST, START, TABLE, has_room, number, takes};
+use donors::table::{MOST, Row, WhichCopy, has_room, takes};
 
-// Where the last row before row `at` ends that takes its span for list 1 (or 2) on a copy: 0 where none does.
+// Where the last row before row `at` ends that takes its span for list 1 (or 2) on a copy: 0 where none does, as `end_before`
+// of specs/Fits.antt has it.
 fn end_before(
-    table: &[u32; TABLE],
+    table: &[Row; MOST],
     choices: &[u8; MOST],
     first: bool,
-    copy: usize,
+    copy: WhichCopy,
     at: usize,
 ) -> usize
     requires { at ≤ most }
     ensures { result ≡ end_before table.now choices.now first (copy_of copy) at }
 {
-    let mut i = at;
-    while 0 < i {
-        i -= 1;
-        if takes(table, i, choices[i], first, copy) {
-            return number(table, i, START) + number(table, i, LEN);
+    for i in (0..at).rev() {
+        let row = &table[i];
+        if takes(row, choices[i], first, copy) {
+            return row.start as usize + row.len as usize;
         }
     }
     0
 }
 
 // Does row `at` with this choice overlap no earlier row of its list on a copy?
-fn fits_on(table: &[u32; TABLE], choices: &[u8; MOST], at: usize, choice: u8, copy: usize) -> bool
+fn fits_on(
+    table: &[Row; MOST],
+    choices: &[u8; MOST],
+    at: usize,
+    choice: u8,
+    copy: WhichCopy,
+) -> bool
     requires { at < most }
     ensures { result ≡ fits_on? table.now choices.now at (choice_of choice) (copy_of copy) }
 {
-    if !has_room(table, at, choice, copy) {
-        return true;
-    }
-    let first = number(table, at, LIST) == 1;
-    end_before(table, choices, first, copy, at) <= number(table, at, START)
+    let row = &table[at];
+    !has_room(row, choice, copy)
+        || end_before(table, choices, row.first, copy, at) <= row.start as usize
 }
 
 // The same on both copies.
-pub fn fits(table: &[u32; TABLE], choices: &[u8; MOST], at: usize, choice: u8) -> bool
+pub fn fits(table: &[Row; MOST], choices: &[u8; MOST], at: usize, choice: u8) -> bool
     requires { at < most }
     ensures { result ≡ fits? table.now choices.now at (choice_of choice) }
 {
-    if !fits_on(table, choices, at, choice, 0) {
-        return false;
-    }
-    fits_on(table, choices, at, choice, 1)
+    fits_on(table, choices, at, choice, WhichCopy::Copy0)
+        && fits_on(table, choices, at, choice, WhichCopy::Copy1)
 }
 
 // Is that choice tried, where no answer below it scores more than `top`? It is where such an answer would be better than the best so far,
 // and it fits.
 pub fn is_tried(
-    table: &[u32; TABLE],
+    table: &[Row; MOST],
     choices: &[u8; MOST],
     at: usize,
     choice: u8,
     top: usize,
-    best: Best,
+    best: Option<Best>,
 ) -> bool
     requires { at < most }
     ensures { result ≡ can_beat? top best && fits? table.now choices.now at (choice_of choice) }
 {
-    if !can_beat(top, best) {
-        return false;
-    }
-    fits(table, choices, at, choice)
+    can_beat(top, best) && fits(table, choices, at, choice)
 }

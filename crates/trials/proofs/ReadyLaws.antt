@@ -36,7 +36,7 @@ sound reference text r h =
         let w = (both (leb 1 a.len) (within? a.at a.len (length (bases_from reference text a.text)))).0 h in
         (leb→le 1 a.len w.0, within a.at a.len _ w.1)
 
-module _ (reference first second t : List ℕ) where
+module _ (reference first second : List ℕ) (t : List Row) where
   pub rows_none : sound_rows? reference first second t 0 ≡ true
   unfolding sound_rows?
   rows_none = refl

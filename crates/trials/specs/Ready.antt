@@ -20,14 +20,14 @@ sound? reference text r =
     within? r.start r.len (length reference) && (stands? reference text r.copy0 && stands? reference text r.copy1)
 
 -- Row i is sound.
-abbrev pub sound_row? : List ℕ → List ℕ → List ℕ → List ℕ → ℕ → Bool
+abbrev pub sound_row? : List ℕ → List ℕ → List ℕ → List Row → ℕ → Bool
 sound_row? reference first second t i = sound? reference (pick (row_at t i).first first second) (row_at t i)
 
 -- The first n rows are.
-unfoldable pub sound_rows? : List ℕ → List ℕ → List ℕ → List ℕ → ℕ → Bool
+unfoldable pub sound_rows? : List ℕ → List ℕ → List ℕ → List Row → ℕ → Bool
 sound_rows? reference first second t zero = true
 sound_rows? reference first second t (suc n) = sound_rows? reference first second t n && sound_row? reference first second t n
 
 -- The first n rows are all that the search asks for.
-abbrev pub ready? : List ℕ → List ℕ → List ℕ → List ℕ → ℕ → Bool
+abbrev pub ready? : List ℕ → List ℕ → List ℕ → List Row → ℕ → Bool
 ready? reference first second t n = leb n most && sound_rows? reference first second t n

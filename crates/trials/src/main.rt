@@ -6,10 +6,7 @@
 mod drawn;
 mod ready;
 
-ghost use Rattle.std.specs.Prelude.{◌≡◌, min};
-
-use bases::bytes::same_bytes;
-use donors::table::{MOST, TABLE};
+use donors::table::{MOST, Row};
 use drawn::put_rows;
 use matching::search::best_choices;
 use ready::is_ready;
@@ -19,16 +16,6 @@ use std::rt::Env;
 
 fn print_none(rt: &impl Print) -> io::Result<()> {
     println!(rt; "no such cluster")
-}
-
-// The smaller of the two.
-fn smaller(a: usize, b: usize) -> usize
-    ensures { result ≡ min a b }
-{
-    if a <= b {
-        return a;
-    }
-    b
 }
 
 // Searches `most` entries at most of a drawn cluster, each with an ALT of `alt` bases, and prints the score.
@@ -41,12 +28,12 @@ fn search(
     most: usize,
 ) -> io::Result<()> {
     let reference = b"ATGCCATGGCATTGCAATGCCATGGCATTGCAATGCCATGGCATTGCAATGCCATGGCAT";
-    let mut table = [0u32; TABLE];
+    let mut table = [Row::default(); MOST];
     let n = put_rows(first, second, homozygous, alt, &mut table);
     if !is_ready(reference, first, second, &table, n) {
         return print_none(rt);
     }
-    let best = best_choices(reference, first, second, &table, smaller(n, most));
+    let best = best_choices(reference, first, second, &table, n.min(most));
     let score = best.score;
     println!(rt; "{score}")
 }
@@ -83,67 +70,47 @@ fn search_bases(rt: &impl Print, first: &[u8], second: &[u8]) -> io::Result<()> 
 // Searches the cluster of that name. Of `none` twelve rows are written and tested as of the others, and no entry is searched: that is what
 // a run takes besides its search.
 fn search_named(rt: &impl Print, name: &[u8]) -> io::Result<()> {
-    if same_bytes(name, b"none") {
-        return search_apart(rt, true, 0);
-    }
-    if same_bytes(name, b"apart-homozygous") {
-        return search_apart(rt, true, MOST);
-    }
-    if same_bytes(name, b"apart-heterozygous") {
-        return search_apart(rt, false, MOST);
-    }
-    if same_bytes(name, b"both-homozygous") {
-        return search_both(rt, true);
-    }
-    if same_bytes(name, b"both-heterozygous") {
-        return search_both(rt, false);
-    }
-    if same_bytes(name, b"both-five-bases") {
-        return search(
+    match name {
+        b"none" => search_apart(rt, true, 0),
+        b"apart-homozygous" => search_apart(rt, true, MOST),
+        b"apart-heterozygous" => search_apart(rt, false, MOST),
+        b"both-homozygous" => search_both(rt, true),
+        b"both-heterozygous" => search_both(rt, false),
+        b"both-five-bases" => search(
             rt,
             b"CCCCC.....CCCCC.....GGGGG.....GGGGG.....TTTTT.....TTTTT.....",
             b"CCCCC.....CCCCC.....GGGGG.....GGGGG.....TTTTT.....TTTTT.....",
             true,
             5,
             MOST,
-        );
-    }
-    if same_bytes(name, b"one-list-first") {
-        return search_bases(
+        ),
+        b"one-list-first" => search_bases(
             rt,
             b"C....C....C....C....G....G..................................",
             b"..............................G....G....T....T....T....T....",
-        );
-    }
-    if same_bytes(name, b"one-more-behind") {
-        return search_bases(
+        ),
+        b"one-more-behind" => search_bases(
             rt,
             b"C.........C.........G.........G.........T..............T....",
             b"C.........C.........G.........G.........T...................",
-        );
-    }
-    if same_bytes(name, b"one-more-before") {
-        return search_bases(
+        ),
+        b"one-more-before" => search_bases(
             rt,
             b"...G......C.........G.........G.........T.........T.........",
             b"..........C.........G.........G.........T.........T.........",
-        );
-    }
-    if same_bytes(name, b"two-more-behind") {
-        return search_bases(
+        ),
+        b"two-more-behind" => search_bases(
             rt,
             b"C.........C.........G.........G.........T............C......",
             b"C.........C.........G.........G.........T................G..",
-        );
-    }
-    if same_bytes(name, b"two-more-before") {
-        return search_bases(
+        ),
+        b"two-more-before" => search_bases(
             rt,
             b"..T.......C.........G.........G.........T.........T.........",
             b"......A...C.........G.........G.........T.........T.........",
-        );
+        ),
+        _ => print_none(rt),
     }
-    print_none(rt)
 }
 
 fn main(rt: HostRuntime) -> io::Result<()> {

@@ -2,49 +2,38 @@
 // text or on the reference.
 ghost use Rattle.std.specs.Prelude.{◌≡◌, ◌<◌};
 ghost use Rattle.bases.specs.Letter.{bases_of};
-ghost use Rattle.donors.specs.Table.{most, row_at};
+ghost use Rattle.donors.specs.Table.{most};
 ghost use Rattle.trials.specs.Ready.{within?, stands?, sound?, sound_row?, ready?};
 
 use bases::reference::base_count;
-use donors::table::{Allele, LEN, LIST, MOST, START, TABLE, allele_of, number};
+use donors::table::{Allele, MOST, Row};
 
 // Do `len` bases from `at` on lie in `size`?
 fn is_within(at: usize, len: usize, size: usize) -> bool
     ensures { result ≡ within? at len size }
 {
-    if size < at {
-        return false;
-    }
-    len <= size - at
+    at <= size && len <= size - at
 }
 
 // Is the allele some bases of the text, or of the reference?
 fn stands(reference: &[u8], text: &[u8], allele: Allele) -> bool
     ensures { result ≡ stands? (bases_of reference.now) text.now allele }
 {
-    if allele.len == 0 {
-        return false;
-    }
-    if allele.text {
-        return is_within(allele.at, allele.len, text.len());
-    }
-    is_within(allele.at, allele.len, base_count(reference))
+    let size = if allele.text {
+        text.len()
+    } else {
+        base_count(reference)
+    };
+    1 <= allele.len && is_within(allele.at as usize, allele.len as usize, size)
 }
 
-// Is row i sound, with the text of its list?
-fn is_sound(reference: &[u8], text: &[u8], table: &[u32; TABLE], i: usize) -> bool
-    requires { i < most }
-    ensures { result ≡ sound? (bases_of reference.now) text.now (row_at table.now i) }
+// Is a row sound, with the text of its list?
+fn is_sound(reference: &[u8], text: &[u8], row: &Row) -> bool
+    ensures { result ≡ sound? (bases_of reference.now) text.now row.now }
 {
-    let start = number(table, i, START);
-    let len = number(table, i, LEN);
-    if !is_within(start, len, base_count(reference)) {
-        return false;
-    }
-    if !stands(reference, text, allele_of(table, i, b'+', 0)) {
-        return false;
-    }
-    stands(reference, text, allele_of(table, i, b'+', 1))
+    is_within(row.start as usize, row.len as usize, base_count(reference))
+        && stands(reference, text, row.copy0)
+        && stands(reference, text, row.copy1)
 }
 
 // Is row i sound?
@@ -52,16 +41,14 @@ fn is_sound_row(
     reference: &[u8],
     first: &[u8],
     second: &[u8],
-    table: &[u32; TABLE],
+    table: &[Row; MOST],
     i: usize,
 ) -> bool
     requires { i < most }
     ensures { result ≡ sound_row? (bases_of reference.now) first.now second.now table.now i }
 {
-    if number(table, i, LIST) == 1 {
-        return is_sound(reference, first, table, i);
-    }
-    is_sound(reference, second, table, i)
+    let row = &table[i];
+    is_sound(reference, if row.first { first } else { second }, row)
 }
 
 // Are the first n rows all that the search asks for?
@@ -69,7 +56,7 @@ pub fn is_ready(
     reference: &[u8],
     first: &[u8],
     second: &[u8],
-    table: &[u32; TABLE],
+    table: &[Row; MOST],
     n: usize,
 ) -> bool
     ensures { result ≡ ready? (bases_of reference.now) first.now second.now table.now n }
@@ -77,12 +64,10 @@ pub fn is_ready(
     if MOST < n {
         return false;
     }
-    let mut i: usize = 0;
-    while i < n {
+    for i in 0..n {
         if !is_sound_row(reference, first, second, table, i) {
             return false;
         }
-        i += 1;
     }
     true
 }

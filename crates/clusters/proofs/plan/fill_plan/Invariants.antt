@@ -1,17 +1,12 @@
--- The loop of `clusters::plan::fill_plan`: the step in hand stands behind k clusters, and of the lent records the first k are the
--- plan's and all others as they were. The measure is the number of clusters that are left.
-use Rattle.std.proofs.Common.{◌≡◌, ◌-◌, length, take}
+-- The loop of `clusters::plan::fill_plan`: what is still to be written gives all records of the plan.
 use Rattle.bases.specs.Letter.{bases_of}
-use Rattle.bases.specs.Put.{put}
 use Rattle.clusters.specs.Plan.{plan_of}
-use Rattle.clusters.proofs.StepLaws.{WalkedTo}
+use Rattle.clusters.specs.Walk.{clusters_left}
+use Rattle.clusters.proofs.Filling.{Filling}
 use Rattle.clusters.proofs.plan.fill_plan.Given as goal
 
-abbrev pub invariant-loop-walk : goal.invariant-loop-walk
-invariant-loop-walk l = record {
-  walked : WalkedTo (bases_of l.reference) l.first l.second l.k l.walk;
-  filled : l.plan ≡ put l.fn.plan 0 (take l.k (plan_of (bases_of l.reference) l.first l.second));
-}
-
-abbrev pub decreases-loop-walk : goal.decreases-loop-walk
-decreases-loop-walk l = length (plan_of (bases_of l.reference) l.first l.second) - l.k
+abbrev pub invariant-loop-cluster : goal.invariant-loop-cluster
+invariant-loop-cluster l =
+    (goal.iterator-loop-cluster).can_next l.cluster-iterator
+    × (goal.iterator-loop-cluster).is_finite l.cluster-iterator
+    × Filling (plan_of (bases_of l.lists.reference.now) l.lists.first.now l.lists.second.now) l.fn.plan (clusters_left l.cluster-iterator) l.k l.plan

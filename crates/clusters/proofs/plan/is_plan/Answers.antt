@@ -1,72 +1,30 @@
--- `clusters::plan::is_plan` meets its contract: each turn of the loop judges the next record given. Assumes nothing.
-use Rattle.std.proofs.Common.{arith, sym}
-use Rattle.bases.specs.Letter.{bases_of}
-use Rattle.clusters.specs.declared.plan.Cluster.{Cluster}
-use Rattle.clusters.specs.Plan.{plan_of}
-use Rattle.clusters.proofs.LentLaws.{is_plan_none, is_plan_more, is_plan_all}
-use Rattle.clusters.proofs.StepLaws.{walked_start, walked_turn, walked_all}
+-- `clusters::plan::is_plan` meets its contract. Assumes nothing.
+use mathlib.Core.Logic.{⊎_elim}
+use Rattle.std.proofs.Common.{◌≡◌, sym, ap, ◌∙◌, true, false, [], length, arith, rules}
+use Rattle.std.proofs.lemmas.List.{nil_from_length}
+use Rattle.std.specs.Iterator.Adapters.{zip_first, zip_second}
+use Rattle.std.specs.Slice.Iter.{iter_rest}
+use Rattle.clusters.specs.Walk.{clusters_left}
+use Rattle.clusters.specs.Lent.{same_cluster?}
+use Rattle.clusters.proofs.LentLaws.{judged_all, judged_same, judged_other}
 use Rattle.clusters.proofs.plan.is_plan.Goals as goal
 
-pub loop-walk-init : goal.loop-walk-init
-loop-walk-init c =
-    let a = c.args in
-    let r = bases_of a.reference.now in
-    record {
-      walked = walked_start r a.first.now a.second.now c.first_walk-walk.result c.first_walk-walk.ensures;
-      judged = sym (is_plan_none (plan_of r a.first.now a.second.now) a.plan.now);
-    }
+pub returns-then-ne : goal.returns-then-ne
+returns-then-ne c =
+    let s = c.in-Some.ensures.steps in
+    let other : same_cluster? c.in-Some.cluster c.in-Some.given.now ≡ false = search rules in
+    sym (judged_other s.0 s.1 other) ∙ c.loop-cluster.invariant.3
 
-pub offset_bounds-plan-k : goal.offset_bounds-plan-k
-offset_bounds-plan-k c =
-    let a = c.args in
-    let l = c.loop-walk in
-    let t = walked_turn (bases_of a.reference.now) a.first.now a.second.now c.requires.0 l.k l.walk l.invariant.walked c.loop-walk-test.true l.walk.cluster in
-    omega (arith, t.less)
-
-pub bounds-plan-k : goal.bounds-plan-k
-bounds-plan-k c =
-    let a = c.args in
-    let l = c.loop-walk in
-    let t = walked_turn (bases_of a.reference.now) a.first.now a.second.now c.requires.0 l.k l.walk l.invariant.walked c.loop-walk-test.true l.walk.cluster in
-    omega (arith, t.less)
-
-pub next_walk-walk-requires : goal.next_walk-walk-requires
-next_walk-walk-requires c =
-    let a = c.args in
-    let l = c.loop-walk in
-    let t = walked_turn (bases_of a.reference.now) a.first.now a.second.now c.requires.0 l.k l.walk l.invariant.walked c.loop-walk-test.true l.walk.cluster in
-    t.goes
-
-pub overflow_add-k : goal.overflow_add-k
-overflow_add-k c =
-    let a = c.args in
-    let l = c.loop-walk in
-    let t = walked_turn (bases_of a.reference.now) a.first.now a.second.now c.requires.0 l.k l.walk l.invariant.walked c.loop-walk-test.true l.walk.cluster in
-    omega (arith, t.less)
-
-pub loop-walk-smaller : goal.loop-walk-smaller
-loop-walk-smaller c =
-    let a = c.args in
-    let l = c.loop-walk in
-    let t = walked_turn (bases_of a.reference.now) a.first.now a.second.now c.requires.0 l.k l.walk l.invariant.walked c.loop-walk-test.true l.walk.cluster in
-    omega (arith, t.less)
-
-pub loop-walk-preserved : goal.loop-walk-preserved
-loop-walk-preserved c =
-    let a = c.args in
-    let l = c.loop-walk in
-    let none : Cluster = record { first = 0; count = 0 } in
-    let t = walked_turn (bases_of a.reference.now) a.first.now a.second.now c.requires.0 l.k l.walk l.invariant.walked c.loop-walk-test.true none in
-    record {
-      walked = t.next c.next_walk-walk.result c.next_walk-walk.ensures;
-      judged = is_plan_more none l.same l.walk.cluster l.k (plan_of (bases_of a.reference.now) a.first.now a.second.now) a.plan.now
-          l.invariant.judged t.made t.less (omega (arith, t.less));
-    }
+pub loop-cluster-preserved : goal.loop-cluster-preserved
+loop-cluster-preserved c =
+    let s = c.in-Some.ensures.steps in
+    let same : same_cluster? c.in-Some.cluster c.in-Some.given.now ≡ true = search rules in
+    (search rules, tt, omega (arith, c.loop-cluster.invariant.2, ap length s.0, ap length s.1), sym (judged_same s.0 s.1 same) ∙ c.loop-cluster.invariant.3)
 
 pub returns : goal.returns
 returns c =
-    let a = c.args in
-    let l = c.loop-walk in
-    let r = bases_of a.reference.now in
-    let all = walked_all r a.first.now a.second.now c.requires.0 l.k l.walk l.invariant.walked c.loop-walk-test.false in
-    rw (l.invariant.judged, all) (is_plan_all (plan_of r a.first.now a.second.now) a.plan.now)
+    let l = c.loop-cluster in
+    let left = clusters_left (zip_first l.cluster-iterator) in
+    let given = iter_rest (zip_second l.cluster-iterator) in
+    let none : left ≡ [] = ⊎_elim (λ h. h.1.0) (λ h. nil_from_length left (omega (arith, l.invariant.2, h.1.0))) c.in-None.ensures.steps in
+    sym (judged_all given none) ∙ l.invariant.3

@@ -1,13 +1,8 @@
--- `matching::fits::end_before` meets its contract. The invariant: of the rows from i on none takes its span. The measure is i. Assumes
--- nothing.
+-- `matching::fits::end_before` meets its contract. The invariant: of the rows from i on none takes its span. Assumes nothing.
 use mathlib.Core.Path.{◌≡◌}
-use Prim.Native.Nat.{◌≤◌}
 use Rattle.donors.specs.Table.{copy_of}
 use Rattle.matching.specs.Fits.{end_before}
 use Rattle.matching.proofs.fits.end_before.Given as goal
 
 abbrev pub invariant-loop-i : goal.invariant-loop-i
-invariant-loop-i l = (l.i ≤ l.at) × (end_before l.table l.choices l.first (copy_of l.copy) l.at ≡ end_before l.table l.choices l.first (copy_of l.copy) l.i)
-
-abbrev pub decreases-loop-i : goal.decreases-loop-i
-decreases-loop-i l = l.i
+invariant-loop-i l = end_before l.table l.choices l.first (copy_of l.copy) l.at ≡ end_before l.table l.choices l.first (copy_of l.copy) l.i

@@ -11,6 +11,7 @@ use Rattle.matching.proofs.MadeLaws.{carried}
 use Rattle.matching.proofs.MidwayLaws.{Went, tried, made_taken, went_taken, went_unfit, went_untried, made_skipped, went_skipped, went_unskipped, made_less, search_went}
 use Rattle.matching.proofs.search.+search.Goals as goal
 use Rattle.matching.proofs.search.+search.Goals.{then-fits, else-fits, then-is_tried, else-is_tried}
+use Rattle.matching.proofs.search.+search.Goals.{else-donors_agree-via-then-donors_agree+else-donors_agree-2, else-donors_agree-via-else-donors_agree}
 
 pub donors_agree-requires : goal.donors_agree-requires
 donors_agree-requires t c = (c.requires.0, made_apart (carried c.requires) c.if-left-eq0.true copy0)
@@ -23,13 +24,14 @@ returns-then-donors_agree-2 t c =
     search_found (carried c.requires) c.if-left-eq0.true c.args.best c.requires.3 c.donors_agree.ensures c.if-donors_agree.true
     c.donors_agree-then-donors_agree.ensures c.if-donors_agree-2.true
 
-pub returns-else-donors_agree-2 : goal.returns-else-donors_agree-2
-returns-else-donors_agree-2 t c =
-    search_none (carried c.requires) c.if-left-eq0.true c.args.best copy1 c.donors_agree-then-donors_agree.ensures c.if-donors_agree-2.false
-
 pub returns-else-donors_agree : goal.returns-else-donors_agree
 returns-else-donors_agree t c =
-    search_none (carried c.requires) c.if-left-eq0.true c.args.best copy0 c.donors_agree.ensures c.if-donors_agree.false
+    let m = carried c.requires in
+    let e = c.if-left-eq0.true in
+    elim c.else-donors_agree.branch [
+      | else-donors_agree-via-then-donors_agree+else-donors_agree-2 w ↦ search_none m e c.args.best copy1 w.donors_agree-then-donors_agree.ensures w.if-donors_agree-2.false
+      | else-donors_agree-via-else-donors_agree w ↦ search_none m e c.args.best copy0 c.donors_agree.ensures w.if-donors_agree.false
+    ]
 
 pub search-best-requires : goal.search-best-requires
 search-best-requires t c = (
@@ -57,7 +59,7 @@ search-best-requires-then-is_tried t c =
     )
 
 pub overflow_sub-rest : goal.overflow_sub-rest
-overflow_sub-rest t c = made_less (carried c.requires) c.if-left-eq0.false c.number.result c.number.ensures.0
+overflow_sub-rest t c = made_less (carried c.requires) c.if-left-eq0.false _ refl
 
 pub search-best-requires-then-can_beat : goal.search-best-requires-then-can_beat
 search-best-requires-then-can_beat t c =
@@ -78,7 +80,7 @@ search-best-requires-then-can_beat t c =
       (
         c.requires.0,
         omega arith,
-        made_skipped m e c.number.result c.number.ensures.0 c.if-is_tried.choices q.0,
+        made_skipped m e _ refl c.if-is_tried.choices q.0,
         of_true (sym c.can_beat.ensures ∙ c.if-can_beat.true),
       ),
     )
@@ -99,7 +101,7 @@ returns-then-can_beat t c =
       | else-is_tried w ↦ went_untried m e c.if-fits.choices p.0 minus tt _ _ _ w.best-is w.choices-is c.is_tried.ensures w.if-is_tried.false
     ] in
     search_went m e a.best _ _ _ _ _ _ p q
-    (went_skipped m e c.number.result c.number.ensures.0 c.if-is_tried.choices q.0 c.if-is_tried.best _ c.search-best-then-can_beat.ensures)
+    (went_skipped m e _ refl c.if-is_tried.choices q.0 c.if-is_tried.best _ c.search-best-then-can_beat.ensures)
 
 pub returns-else-can_beat : goal.returns-else-can_beat
 returns-else-can_beat t c =
@@ -117,4 +119,4 @@ returns-else-can_beat t c =
       | else-is_tried w ↦ went_untried m e c.if-fits.choices p.0 minus tt _ _ _ w.best-is w.choices-is c.is_tried.ensures w.if-is_tried.false
     ] in
     search_went m e a.best _ _ _ _ _ _ p q
-    (went_unskipped m e c.number.result c.number.ensures.0 c.if-is_tried.choices q.0 c.if-is_tried.best c.can_beat.ensures c.if-can_beat.false)
+    (went_unskipped m e _ refl c.if-is_tried.choices q.0 c.if-is_tried.best c.can_beat.ensures c.if-can_beat.false)

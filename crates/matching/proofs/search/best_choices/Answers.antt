@@ -4,18 +4,22 @@ use mathlib.Core.Path.{◌∙◌}
 use native.Mathlib.Omega.{arith}
 use Rattle.bases.specs.Letter.{bases_of}
 use Rattle.matching.proofs.AnswerBest.{made_start, search_start}
-use Rattle.matching.proofs.ImprovedLaws.{nothing_beaten}
 use Rattle.matching.proofs.search.best_choices.Goals as goal
 
 pub search-requires : goal.search-requires
-search-requires c = let s = c in
-    let a = s.args in (
-      s.requires,
-      omega arith,
-      made_start (bases_of a.reference.now) a.first.now a.second.now a.table.now a.n c.sum_weights-top.result c.sum_weights-top.ensures,
-      nothing_beaten c.sum_weights-top.result c.nothing-best.result c.nothing-best.ensures,
-    )
+search-requires c = let a = c.args in (
+  c.requires,
+  omega arith,
+  made_start (bases_of a.reference.now) a.first.now a.second.now a.table.now a.n c.sum_weights-top.result c.sum_weights-top.ensures,
+  tt,
+)
+
+pub unwrap-requires : goal.unwrap-requires
+unwrap-requires c = let a = c.args in
+    let e = c.search.ensures ∙ search_start (bases_of a.reference.now) a.first.now a.second.now a.table.now a.n in
+    rw e
 
 pub returns : goal.returns
 returns c = let a = c.args in
-    c.search.ensures ∙ search_start (bases_of a.reference.now) a.first.now a.second.now a.table.now a.n c.nothing-best.result c.nothing-best.ensures
+    let e = c.search.ensures ∙ search_start (bases_of a.reference.now) a.first.now a.second.now a.table.now a.n in
+    cc (c.unwrap.ensures, e)
