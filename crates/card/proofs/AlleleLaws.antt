@@ -39,9 +39,8 @@ use Rattle.vcf.specs.List.{longest_text}
 use Rattle.vcf.proofs.JudgeLaws.{accepted_zero, text_fits}
 use Rattle.vcf.proofs.PartLaws.{first_within, second_within, first_bytes, second_bytes}
 use Rattle.fields.proofs.AlleleLaws.{allele_iff}
-use Rattle.card.specs.declared.allele.Shown.{Shown}
 use Rattle.card.specs.declared.refusal.Refusal.{Refusal}
-use Rattle.card.specs.Allele.{entry_number, allele_refusal, of_reference, of_text, shown_of, refused_shown, shown, bytes_shown, ptr_shown}
+use Rattle.card.specs.Allele.{Shown, entry_number, allele_refusal, of_reference, of_text, shown_of, refused_shown, shown, bytes_shown, ptr_shown}
 use Rattle.card.specs.Refusal.{no_refusal}
 use Rattle.bases.proofs.FirstLaws.{NoneHolds, First}
 use Rattle.card.proofs.RefusalLaws.{first_none, none_holds, refused_iff, answered_iff}

@@ -12,10 +12,16 @@ use Rattle.card.proofs.allele.allele_refusal.Kinds as allele-refusal-kinds
 use Rattle.card.proofs.allele.allele_refusal.Reads as allele-refusal
 use Rattle.card.proofs.allele.allele_shown.Kinds as allele-shown-kinds
 use Rattle.card.proofs.allele.allele_shown.Reads as allele-shown
+use Rattle.card.proofs.all.AllMarkedFromRefusal.from.Kinds as all-from-kinds
+use Rattle.card.proofs.all.AllMarkedFromRefusal.from.Reads as all-from
+use Rattle.card.proofs.answer.AnswerFromRefusal.from.Kinds as answer-from-kinds
+use Rattle.card.proofs.answer.AnswerFromRefusal.from.Reads as answer-from
 use Rattle.card.proofs.answer.refuse.Kinds as refuse-kinds
 use Rattle.card.proofs.answer.refuse.Reads as refuse
 use Rattle.card.proofs.answer.give.Kinds as give-kinds
 use Rattle.card.proofs.answer.give.Reads as give
+use Rattle.card.proofs.count.CountedFromRefusal.from.Kinds as count-from-kinds
+use Rattle.card.proofs.count.CountedFromRefusal.from.Reads as count-from
 use Rattle.card.proofs.count.count.Kinds as count-kinds
 use Rattle.card.proofs.count.count.Reads as count
 use Rattle.card.proofs.lists.is_small.Kinds as is-small-kinds
@@ -41,6 +47,16 @@ refuse_determines κs a z z' e e' p q = p ∙ sym q
 
 pub give_determines : OneResult 0 give-kinds.ps give-kinds.r give.Post
 give_determines κs a z z' e e' p q = p ∙ sym q
+
+-- A refusal as an answer.
+pub answer_from_determines : OneResult 0 answer-from-kinds.ps answer-from-kinds.r answer-from.Post
+answer_from_determines κs a z z' e e' p q = p ∙ sym q
+
+pub all_marked_from_determines : OneResult 0 all-from-kinds.ps all-from-kinds.r all-from.Post
+all_marked_from_determines κs a z z' e e' p q = p ∙ sym q
+
+pub counted_from_determines : OneResult 0 count-from-kinds.ps count-from-kinds.r count-from.Post
+counted_from_determines κs a z z' e e' p q = p ∙ sym q
 
 pub count_determines : OneResult 5 count-kinds.ps count-kinds.r count.Post
 count_determines κs a z z' e e' p q = p ∙ sym q

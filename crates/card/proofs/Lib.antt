@@ -24,4 +24,5 @@ pub mod ReadyLaws
 pub mod RefusalLaws
 pub mod ScoreLaws
 pub mod ShownLaws
+pub mod StandsLaws
 pub mod WrittenDonors

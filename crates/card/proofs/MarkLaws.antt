@@ -23,14 +23,15 @@ use Rattle.bases.specs.Reference.{is_reference?}
 use Rattle.bases.proofs.TestLaws.{neither}
 use Rattle.clusters.specs.declared.plan.Cluster.{Cluster}
 use Rattle.clusters.specs.Lent.{is_plan?}
-use Rattle.marks.specs.Marks.{clusters_of, first_entry, cluster_at, is_cluster?, marks_of, marked_of, not_found, asked_for, marks_after}
+use Rattle.marks.specs.declared.mark.Marked.TheVariants.{NoCluster, Undecided, Scored}
+use Rattle.marks.specs.Marks.{decided?, score_of, clusters_of, first_entry, cluster_at, is_cluster?, marks_of, marked_of, asked_for, marks_after}
 use Rattle.clusters.specs.Plan.{plan_of}
 use Rattle.donors.specs.Choice.{Variant}
 use Rattle.vcf.specs.List.{judge_text}
 use Rattle.card.specs.declared.refusal.Refusal.{Refusal}
-use Rattle.card.specs.Answer.{refused_answer, answer_of}
+use Rattle.card.specs.Answer.{answer, refused_answer, answer_of}
 use Rattle.card.specs.Refusal.{refusal, no_refusal, Check, check, first_refusal, least_room, lists_checks}
-use Rattle.card.specs.Mark.{mark_value, small_room?, mark_checks, mark_refusal, marked, answer_asked, mark_after}
+use Rattle.card.specs.Mark.{UNDECIDED, mark_value, small_room?, mark_checks, mark_refusal, marked, answer_told, answer_asked, mark_after}
 use Rattle.card.proofs.ListsLaws.{check_numbered, accepted_of, lists_numbered}
 use Rattle.bases.proofs.FirstLaws.{NoneHolds, First}
 use Rattle.card.proofs.RefusalLaws.{Numbered, none_holds, first_keeps, first_goes, refused_iff, answered_iff}
@@ -116,12 +117,16 @@ module _ (reference name first second : List ℕ) (plan : List Cluster) (k : ℕ
       c : List Variant
       c = cluster_at (clusters_of (bases_of reference) first second) k
 
+      told : (d : Bool) (s : ℕ) → answer 0 0 0 0 (pick d s UNDECIDED) ≡ answer_told (pick d (Scored s) Undecided)
+      told true s = refl
+      told false s = refl
+
       go : (s t : Bool)
           → (answer_of (pick (not s) (refusal 17 0 0 0) (pick (not t) (refusal 16 0 0 0) no_refusal)) (mark_value (bases_of reference) c)
-          ≡ answer_asked s (pick t (marked_of (bases_of reference) c) not_found))
+          ≡ answer_asked s (pick t (marked_of (bases_of reference) c) NoCluster))
           × (pick (eqb (pick (not s) (refusal 17 0 0 0) (pick (not t) (refusal 16 0 0 0) no_refusal)).number 0)
           (pick t (put marks (first_entry (clusters_of (bases_of reference) first second) k) (marks_of (bases_of reference) c)) marks) marks
           ≡ pick s (pick t (put marks (first_entry (clusters_of (bases_of reference) first second) k) (marks_of (bases_of reference) c)) marks) marks)
-      go true true = (refl, refl)
+      go true true = (told (decided? c) (score_of (bases_of reference) c), refl)
       go true false = (refl, refl)
       go false t = (refl, refl)

@@ -4,7 +4,7 @@
 -- Assumes nothing.
 use mathlib.Core.Bool.{Bool, false}
 use mathlib.Core.List.{List}
-use mathlib.Core.Path.{◌≡◌, sym, ap, ◌∙◌}
+use mathlib.Core.Path.{◌≡◌, sym, ◌∙◌}
 use Prim.Native.Nat.{ℕ, ◌≤◌}
 use native.Mathlib.Omega.{arith}
 use borrow.Author.Tests.{ltb-false}
@@ -21,8 +21,6 @@ use Rattle.clusters.specs.Merged.{merged_items}
 use Rattle.clusters.specs.Plan.{plan_of}
 use Rattle.clusters.proofs.CardClusters.{clusters_plain, map_length}
 use Rattle.clusters.proofs.NextLaws.{accepted_ready}
-use Rattle.card.specs.declared.answer.Answer.{Answer}
-use Rattle.card.specs.Answer.{refused_answer}
 use Rattle.card.specs.Mark.{small_room?}
 use Rattle.card.specs.Refusal.{first_refusal, least_room, lists_checks}
 use Rattle.card.proofs.ClusterMarks.{whole_long, entries_most, plan_few}
@@ -58,11 +56,11 @@ lists_answerable reference name first second small z =
       r.0.roomy,
     )
 
--- Of two lengths that are lent, `small` tells whether one is too small, and the answer `a` whether a row of the lists holds.
-pub rooms_answerable : (reference name first second : List ℕ) (plan marks : ℕ) (small : Bool) (a : Answer) → small ≡ small_room? plan marks
-    → a ≡ refused_answer (first_refusal (lists_checks reference name first second small)) → a.number ≡ 0
+-- Of two lengths that are lent, `small` tells whether one is too small.
+pub rooms_answerable : (reference name first second : List ℕ) (plan marks : ℕ) (small : Bool) → small ≡ small_room? plan marks
+    → (first_refusal (lists_checks reference name first second small)).number ≡ 0
     → Answerable (bases_of reference) first second × (least_room ≤ plan) × (least_room ≤ marks)
-rooms_answerable reference name first second plan marks small a e f z =
-    let can = lists_answerable reference name first second small (sym (ap (λ (x : Answer). x.number) f) ∙ z) in
+rooms_answerable reference name first second plan marks small e z =
+    let can = lists_answerable reference name first second small z in
     let room = neither (ltb plan least_room) (ltb marks least_room) (sym e ∙ can.1) in
     (can.0, ltb-false plan least_room room.0, ltb-false marks least_room room.1)

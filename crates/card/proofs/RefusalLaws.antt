@@ -5,16 +5,19 @@
 --     first_none, none_holds           four zeros where no row holds, and number 0 only there
 --     first_keeps, first_goes          checks behind others: where one of those holds they are not reached, else they decide
 --     refused_iff, answered_iff        a refusal is given exactly if it is the first whose row holds; four zeros exactly if no row holds
+--     passed_on, passed_not            a call goes on exactly where number is 0, and else is turned away with the refusal
 -- Assumes nothing.
 use mathlib.Core.Bool.{true, false}
 use mathlib.Core.List.{List, ◌∷◌, ◌++◌}
 use mathlib.Core.Logic.{◌↔◌, ◌≢◌}
-use mathlib.Core.Path.{◌≡◌, refl}
+use mathlib.Core.Path.{◌≡◌, refl, sym}
 use Prim.Native.Nat.{ℕ}
+use Rattle.std.specs.Prelude.{Ok, Err}
 use Rattle.bases.proofs.FirstLaws as first
 use Rattle.bases.proofs.FirstLaws.{NoneHolds, First}
+use Rattle.records.proofs.ResultLaws.{result_ok, result_err}
 use Rattle.card.specs.declared.refusal.Refusal.{Refusal}
-use Rattle.card.specs.Refusal.{no_refusal, Check, first_refusal}
+use Rattle.card.specs.Refusal.{no_refusal, Check, first_refusal, passed}
 
 abbrev number_of : Refusal → ℕ
 number_of r = r.number
@@ -45,3 +48,9 @@ refused_iff = first.refused_iff no_refusal number_of refl
 
 pub answered_iff : (cs : List Check) → Numbered cs → (first_refusal cs ≡ no_refusal) ↔ NoneHolds cs
 answered_iff = first.answered_iff no_refusal number_of refl
+
+pub passed_on : (x : Unit {0}) (r : Refusal) → Ok x ≡ passed r → r.number ≡ 0
+passed_on = result_ok number_of
+
+pub passed_not : (q r : Refusal) → Err q ≡ passed r → (r ≡ q) × (r.number ≢ 0)
+passed_not q r e = let p = result_err number_of q r e in (sym p.0, rw p.0 at p.1)

@@ -10,14 +10,15 @@ use native.Mathlib.Omega.{arith}
 use borrow.Author.Tests.{leb-true}
 use lib.ListN.{length, length-append}
 use Rattle.bases.specs.Pick.{pick}
-use Rattle.marks.specs.Marks.{decided?, score_of, marked_of, not_found, cluster_at, is_cluster?, asked_for, total_score}
+use Rattle.marks.specs.declared.mark.Marked.TheVariants.{NoCluster}
+use Rattle.marks.specs.Marks.{decided?, score_of, marked_of, told_score, cluster_at, is_cluster?, asked_for, total_score}
 use Rattle.donors.specs.Apart.{All}
 use Rattle.donors.specs.Choice.{Variant, Plain}
 use Rattle.donors.specs.Table.{most}
 use Rattle.matching.specs.Best.{score}
 use Rattle.matching.specs.Card.{card_scoring, card_best}
 use Rattle.matching.specs.Cut.{join}
-use Rattle.marks.proofs.MarkLaws.{chosen_few, score_few}
+use Rattle.marks.proofs.MarkLaws.{chosen_few, score_few, score_told}
 
 module _ (reference : List ℕ) where
   pub cluster_score : (c : List Variant) → All Plain c → score_of reference c ≤ most
@@ -27,7 +28,7 @@ module _ (reference : List ℕ) where
       go true e = omega (arith, chosen_few c (card_best reference c) p, leb-true (length c) most e)
       go false e = omega arith
 
-  pub asked_score : (cs : List (List Variant)) → All (All Plain) cs → (k : ℕ) → (asked_for reference cs k).score ≤ most
+  pub asked_score : (cs : List (List Variant)) → All (All Plain) cs → (k : ℕ) → told_score (asked_for reference cs k) ≤ most
   asked_score cs p k = go (is_cluster? cs k)
     where
       at : (cs : List (List Variant)) → All (All Plain) cs → (k : ℕ) → All Plain (cluster_at cs k)
@@ -35,8 +36,8 @@ module _ (reference : List ℕ) where
       at (c ∷ cs) q zero = q.0
       at (c ∷ cs) q (suc k) = at cs q.1 k
 
-      go : (t : Bool) → (pick t (marked_of reference (cluster_at cs k)) not_found).score ≤ most
-      go true = cluster_score (cluster_at cs k) (at cs p k)
+      go : (t : Bool) → told_score (pick t (marked_of reference (cluster_at cs k)) NoCluster) ≤ most
+      go true = omega (arith, score_told reference (cluster_at cs k), cluster_score (cluster_at cs k) (at cs p k))
       go false = omega arith
 
   pub total_score_lem : (cs : List (List Variant)) → All (All Plain) cs → total_score reference cs ≤ length (join cs)

@@ -1,6 +1,7 @@
 -- Laws of the call `allele`: which of its refusals is answered, and where the allele stands.
 --     allele_checks, checks_numbered                 the call's checks in order; a row of them that holds is not numbered 0
 --     shown_refused, shown_there                    what is shown, by the refusal
+--     shown_list                                    what is shown where a row of the reference or of the list holds
 --     shown_no_reference, shown_fault, shown_no_entry, shown_no_allele, shown_entry
 --                                                   what is shown, by the first row that holds, in the order that they are tried
 --     entry_pos                                     the entry that is read has a POS
@@ -30,8 +31,8 @@ use Rattle.vcf.specs.declared.entry.Entry.{Entry}
 use Rattle.vcf.specs.declared.list.Fault.{Fault}
 use Rattle.card.specs.declared.refusal.Refusal.{Refusal}
 use Rattle.card.specs.Allele.{no_entry, entry_number, no_allele?, allele_refusal, shown_of, refused_shown, shown}
-use Rattle.card.specs.Refusal.{refusal, no_refusal, Check, check, reference_check, list_check}
-use Rattle.card.proofs.RefusalLaws.{Numbered, none_holds}
+use Rattle.card.specs.Refusal.{refusal, no_refusal, Check, check, first_refusal, reference_check, list_check, list_checks}
+use Rattle.card.proofs.RefusalLaws.{Numbered, none_holds, first_keeps}
 
 module _ (reference name text : List ℕ) (i k : ℕ) where
   -- Row 1; the rows of the list; row 18.
@@ -55,6 +56,11 @@ module _ (reference name text : List ℕ) (i k : ℕ) where
   pub shown_no_reference : is_reference? reference ≡ false → shown reference name text i k ≡ refused_shown (refusal 1 0 0 0)
   unfolding first_told
   shown_no_reference e = shown_refused (refusal 1 0 0 0) (rw e) (suc-ne-zero 0)
+
+  pub shown_list : (first_refusal (list_checks reference name text false)).number ≢ 0 → shown reference name text i k ≡ refused_shown (first_refusal (list_checks reference name text false))
+  unfolding first_told
+  shown_list n =
+      shown_refused (first_refusal (list_checks reference name text false)) (first_keeps (reference_check reference ∷ list_check 1 reference name text ∷ []) (check (no_allele? text i k) (refusal 18 0 0 0) ∷ []) n) n
 
   module _ (right : is_reference? reference ≡ true) where
     pub shown_fault : (f : Fault) → f ≡ judge_text (bases_of reference) name text → f.number ≢ 0 → shown reference name text i k ≡ refused_shown (refusal f.number 1 f.line f.place)

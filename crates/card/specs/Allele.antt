@@ -1,14 +1,15 @@
 -- Asked for an allele, the card copies nothing: allele 0 is shown as a part of the reference, allele 1 or 2 as a part of the list's text.
 -- Where that is refused, it shows the empty part at the start of the reference.
 -- Assumes nothing: these are definitions.
-use Rattle.std.specs.Prelude.{Bool, true, false, ◌||◌, List, [], ◌∷◌, ℕ, ◌+◌, eqb, leb, ltb, length, get_or}
+use Rattle.std.specs.Prelude.{Bool, true, false, ◌||◌, List, [], ◌∷◌, ℕ, ◌+◌, eqb, leb, ltb, length, get_or, Result, Ok, Err}
 use Rattle.bases.specs.Pick.{pick}
 use Rattle.bases.specs.declared.place.Place.{Place}
 use Rattle.bases.specs.Place.{place_of}
 use Rattle.vcf.specs.declared.entry.Entry.{Entry}
 use Rattle.vcf.specs.declared.entry.Part.{Part}
 use Rattle.vcf.specs.Entry.{part, bytes_of, entry_of, entries_of}
-use Rattle.card.specs.declared.allele.Shown.{Shown}
+use Rattle.card.specs.declared.allele.Stands.{Stands}
+use Rattle.card.specs.declared.allele.Stands.TheVariants.{InReference, InText}
 use Rattle.card.specs.declared.refusal.Refusal.{Refusal}
 use Rattle.card.specs.Refusal.{refusal, no_refusal, check, first_refusal, reference_check, list_check}
 
@@ -28,6 +29,12 @@ no_allele? text i k = leb (length (entries_of text)) i || ltb (entry_number text
 abbrev pub allele_refusal : List ℕ → List ℕ → List ℕ → ℕ → ℕ → Refusal
 allele_refusal reference name text i k =
     first_refusal (reference_check reference ∷ list_check 1 reference name text ∷ check (no_allele? text i k) (refusal 18 0 0 0) ∷ [])
+
+-- What is shown: a part, of the text or else of the reference; or why it is not, with four zeros where it is.
+pub record Shown : Type 0 where
+  pub refusal : Refusal
+  pub text : Bool
+  pub part : Part
 
 -- A part of the reference; a part of the text.
 abbrev pub of_reference : Place → ℕ → Shown
@@ -50,6 +57,10 @@ unfoldable pub shown : List ℕ → List ℕ → List ℕ → ℕ → ℕ → Sh
 shown reference name text i k =
     pick (eqb (allele_refusal reference name text i k).number 0) (shown_of (entry_number text i) k)
     (refused_shown (allele_refusal reference name text i k))
+
+-- The same as a Result: where it stands, or why it is not shown.
+abbrev pub stands_of : Shown → Result Stands Refusal
+stands_of s = pick (eqb s.refusal.number 0) (Ok (pick s.text (InText s.part) (InReference s.part))) (Err s.refusal)
 
 -- The bytes that are shown.
 abbrev pub bytes_shown : List ℕ → List ℕ → Shown → List ℕ

@@ -4,6 +4,7 @@ use Rattle.std.specs.Prelude.{Bool, not, ◌||◌, List, [], ◌∷◌, ◌++◌
 use Rattle.bases.specs.Letter.{bases_of}
 use Rattle.bases.specs.Pick.{pick}
 use Rattle.marks.specs.declared.mark.Marked.{Marked}
+use Rattle.marks.specs.declared.mark.Marked.TheVariants.{NoCluster, Undecided, Scored}
 use Rattle.clusters.specs.declared.plan.Cluster.{Cluster}
 use Rattle.clusters.specs.Lent.{is_plan?}
 use Rattle.marks.specs.Marks.{decided?, score_of, clusters_of, cluster_at, is_cluster?, marks_after}
@@ -43,10 +44,15 @@ module _ (reference name first second : List ℕ) (plan : List Cluster) (k room 
   abbrev pub marked : Answer
   marked = answer_of mark_refusal (mark_value (bases_of reference) (cluster_at (clusters_of (bases_of reference) first second) k))
 
--- What is answered where both lists are read: is the plan given theirs, and what was told of the asked cluster.
+-- What is answered for what was told of the asked cluster,
+abbrev pub answer_told : Marked → Answer
+answer_told NoCluster = answer 16 0 0 0 0
+answer_told Undecided = answer 0 0 0 0 UNDECIDED
+answer_told (Scored s) = answer 0 0 0 0 s
+
+-- and what is answered where both lists are read: is the plan given theirs?
 abbrev pub answer_asked : Bool → Marked → Answer
-answer_asked same m =
-    pick same (pick m.found (answer 0 0 0 0 (pick m.decided m.score UNDECIDED)) (answer 16 0 0 0 0)) (answer 17 0 0 0 0)
+answer_asked same m = pick same (answer_told m) (answer 17 0 0 0 0)
 
 -- The lent marks afterwards: those of the cluster's entries are written.
 abbrev pub mark_after : List ℕ → List ℕ → List ℕ → List ℕ → List Cluster → ℕ → List ℕ → List ℕ

@@ -1,10 +1,11 @@
 -- What is turned away: the four numbers of a refusal, and the first of a call's refusals in document 01's order: 1; 2; list 1; list 2; 17;
 -- 16; 18.
 -- Assumes nothing: these are definitions.
-use Rattle.std.specs.Prelude.{Bool, not, List, [], ◌∷◌, ◌++◌, ℕ, eqb}
+use Rattle.std.specs.Prelude.{Bool, not, List, [], ◌∷◌, ◌++◌, ℕ, eqb, Result}
 use Rattle.bases.specs.Letter.{bases_of}
 use Rattle.bases.specs.First.{Test, test, first_told}
 use Rattle.bases.specs.Reference.{is_reference?}
+use Rattle.records.specs.Row.{fault_result}
 use Rattle.vcf.specs.declared.list.Fault.{Fault}
 use Rattle.vcf.specs.List.{judge_text}
 use Rattle.card.specs.declared.refusal.Refusal.{Refusal}
@@ -27,6 +28,10 @@ check = test
 -- The first refusal whose row holds.
 abbrev pub first_refusal : List Check → Refusal
 first_refusal = first_told no_refusal
+
+-- Whether a call goes on: it does where nothing is turned away, and else it is turned away with this refusal.
+abbrev pub passed : Refusal → Result (Unit {0}) Refusal
+passed = fault_result (λ r. r.number)
 
 -- Row 1.
 abbrev pub reference_check : List ℕ → Check

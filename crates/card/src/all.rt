@@ -1,16 +1,18 @@
 // The call `mark_all`: plans two lists and marks every cluster.
 ghost use Rattle.std.specs.Prelude.{◌≡◌, length};
 ghost use Rattle.card.specs.All.{all_marked, all_answered, empty_plan, all_plan, all_bytes};
+ghost use Rattle.card.specs.Answer.{refused_answer};
 ghost use Rattle.card.specs.Refusal.{least_room};
 
-use crate::answer::Answer;
 use crate::lists::{LEAST, is_small, lists_refused};
+use crate::refusal::Refusal;
+use clusters::lists::Lists;
 use clusters::plan::{Cluster, fill_plan};
 use marks::mark::mark_every;
 
 // What is answered: the four numbers of a refusal, or zeros; the number of clusters; and the score summed over the decided ones.
 #[repr(C)]
-#[derive(Clone, Copy)]
+#[derive(Clone, Copy, Default)]
 pub struct AllMarked {
     pub number: u32,
     pub list: u32,
@@ -20,17 +22,18 @@ pub struct AllMarked {
     pub score: u32,
 }
 
-// An answer's first four numbers, with these.
-fn all_marked(answer: Answer, clusters: u32, score: u32) -> AllMarked
-    ensures { result ≡ all_marked answer clusters score }
-{
-    AllMarked {
-        number: answer.number,
-        list: answer.list,
-        line: answer.line,
-        place: answer.place,
-        clusters,
-        score,
+// The answer of a refused call: the four numbers of the refusal, and zeros.
+impl From<Refusal> for AllMarked {
+    ghost from_gives = { λ refusal answer. answer ≡ all_marked (refused_answer refusal) 0 0 };
+
+    fn from(refusal: Refusal) -> AllMarked {
+        AllMarked {
+            number: refusal.number,
+            list: refusal.list,
+            line: refusal.line,
+            place: refusal.place,
+            ..AllMarked::default()
+        }
     }
 }
 
@@ -53,13 +56,21 @@ pub fn mark_all(
         marks.old) }
 {
     let small = is_small(plan.len(), marks.len());
-    let refused = lists_refused(reference, name, first, second, small);
-    if refused.number != 0 {
-        return all_marked(refused, 0, 0);
+    if let Err(refusal) = lists_refused(reference, name, first, second, small) {
+        return refusal.into();
     }
-    let clusters = fill_plan(reference, first, second, plan);
-    let score = mark_every(reference, first, second, marks);
-    all_marked(refused, clusters as u32, score as u32)
+    let lists = Lists {
+        reference,
+        first,
+        second,
+    };
+    let clusters = fill_plan(lists, plan) as u32;
+    let score = mark_every(lists, marks) as u32;
+    AllMarked {
+        clusters,
+        score,
+        ..AllMarked::default()
+    }
 }
 
 // What `mark_all` answers, and the plan that it wrote.

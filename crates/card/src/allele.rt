@@ -1,68 +1,39 @@
 // The calls `allele` and `allele_refusal`: an allele of an entry, shown as a part of the reference or of the list's text.
 ghost use Rattle.std.specs.Prelude.{◌≡◌, ◌≤◌};
-ghost use Rattle.card.specs.Allele.{allele_refusal, shown_of, refused_shown, shown, bytes_shown, ptr_shown};
-ghost use Rattle.card.specs.Refusal.{refusal};
+ghost use Rattle.card.specs.Allele.{allele_refusal, shown_of, stands_of, shown, bytes_shown, ptr_shown};
 
+use crate::lists::list_refused;
 use crate::refusal::Refusal;
 use bases::place::place_of;
-use bases::reference::is_reference;
 use vcf::entry::{Entry, Part, entry_at, record_at};
-use vcf::list::judge;
 
-// Where an allele stands: a part of the text or of the reference; or why it is not shown, with the empty part at the start of the
-// reference.
+// Where an allele stands: a part of the reference, or a part of the list's text.
 #[derive(Clone, Copy)]
-pub struct Shown {
-    pub refusal: Refusal,
-    pub text: bool,
-    pub part: Part,
+pub enum Stands {
+    InReference(Part),
+    InText(Part),
 }
 
-// Nothing is shown, for this reason.
-fn refused(number: u32, list: u32, line: u32, place: u32) -> Shown
-    ensures { result ≡ refused_shown (refusal number list line place) }
-{
-    Shown {
-        refusal: Refusal {
-            number,
-            list,
-            line,
-            place,
-        },
-        text: false,
-        part: Part { at: 0, len: 0 },
-    }
-}
+// Row 18: there is no such entry, or no such allele of it.
+const NO_ALLELE: Refusal = Refusal {
+    number: 18,
+    list: 0,
+    line: 0,
+    place: 0,
+};
 
 // Where allele k of an entry stands. Its POS is one.
-fn shown_of(entry: Entry, k: usize) -> Shown
+fn stands_at(entry: Entry, k: usize) -> Stands
     requires { 1 ≤ entry.pos.0 }
-    ensures { result ≡ shown_of entry k }
+    ensures { Ok result ≡ stands_of (shown_of entry k) }
 {
-    let none = Refusal {
-        number: 0,
-        list: 0,
-        line: 0,
-        place: 0,
-    };
-    if k == 0 {
-        let pos = entry.pos;
-        let ref_part = entry.reference;
-        let place = place_of(pos);
-        return Shown {
-            refusal: none,
-            text: false,
-            part: Part {
-                at: place.0,
-                len: ref_part.len,
-            },
-        };
-    }
-    let alt = if k == 1 { entry.first } else { entry.second };
-    Shown {
-        refusal: none,
-        text: true,
-        part: alt,
+    match k {
+        0 => Stands::InReference(Part {
+            at: place_of(entry.pos).0,
+            len: entry.reference.len,
+        }),
+        1 => Stands::InText(entry.first),
+        _ => Stands::InText(entry.second),
     }
 }
 
@@ -73,26 +44,19 @@ pub fn allele_shown(
     text: &[u8],
     entry: usize,
     allele: usize,
-) -> Shown
-    ensures { result ≡ shown reference.now name.now text.now entry allele }
+) -> Result<Stands, Refusal>
+    ensures { result ≡ stands_of (shown reference.now name.now text.now entry allele) }
 {
-    if !is_reference(reference) {
-        return refused(1, 0, 0, 0);
-    }
-    let fault = judge(reference, name, text);
-    let number = fault.number;
-    if number != 0 {
-        return refused(number, 1, fault.line as u32, fault.place as u32);
-    }
+    list_refused(reference, name, text, false)?;
     let at = record_at(text, entry);
     if text.len() <= at {
-        return refused(18, 0, 0, 0);
+        return Err(NO_ALLELE);
     }
     let e = entry_at(text, at);
     if e.alts < allele {
-        return refused(18, 0, 0, 0);
+        return Err(NO_ALLELE);
     }
-    shown_of(e, allele)
+    Ok(stands_at(e, allele))
 }
 
 // Why allele k of entry i is not shown: four numbers, zeros where `allele` on the same input shows it.
@@ -105,9 +69,10 @@ pub fn allele_refusal(
 ) -> Refusal
     ensures { result ≡ allele_refusal reference.now name.now text.now entry allele }
 {
-    let s = allele_shown(reference, name, text, entry, allele);
-    let r = s.refusal;
-    r
+    match allele_shown(reference, name, text, entry, allele) {
+        Ok(_) => Refusal::default(),
+        Err(refusal) => refusal,
+    }
 }
 
 // Allele k of entry i: a part of the reference where k is 0, else a part of the text. Where that is refused, the empty part at the start of
@@ -122,13 +87,9 @@ pub fn allele<'a>(
     ensures { let s = shown reference.now name.now text.now entry allele in (result.now ≡ bytes_shown reference.now text.now s)
         × (result.ref_ptr ≡ ptr_shown reference.entry.ref_ptr text.entry.ref_ptr s) }
 {
-    let s = allele_shown(reference, name, text, entry, allele);
-    let part = s.part;
-    let at = part.at;
-    let end = at + part.len;
-    if s.text {
-        &text[at..end]
-    } else {
-        &reference[at..end]
+    match allele_shown(reference, name, text, entry, allele) {
+        Ok(Stands::InReference(part)) => &reference[part.at..part.at + part.len],
+        Ok(Stands::InText(part)) => &text[part.at..part.at + part.len],
+        Err(_) => &reference[..0],
     }
 }

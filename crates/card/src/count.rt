@@ -1,16 +1,17 @@
 // The call `count`: what the marks of two lists count.
 ghost use Rattle.std.specs.Prelude.{◌≡◌};
 ghost use Rattle.marks.specs.Counts.{Few};
-ghost use Rattle.card.specs.Count.{counted_of, counted};
+ghost use Rattle.card.specs.Answer.{answer, refused_answer};
+ghost use Rattle.card.specs.Count.{counted_of, no_counts, counted};
 
-use crate::answer::Answer;
 use crate::lists::{LEAST, lists_refused};
-use marks::count::{Count, Counts, count_lists};
+use crate::refusal::Refusal;
+use marks::count::{Counts, count_lists};
 
 // What is answered: the four numbers of a refusal, or zeros; then how many entries of list 1 are matched, unmatched and undecided, and how
 // many of list 2.
 #[repr(C)]
-#[derive(Clone, Copy)]
+#[derive(Clone, Copy, Default)]
 pub struct Counted {
     pub number: u32,
     pub list: u32,
@@ -24,25 +25,36 @@ pub struct Counted {
     pub undecided2: u32,
 }
 
-// An answer's first four numbers, with these counts.
-fn counted_of(answer: Answer, counts: Counts) -> Counted
+// The answer of a refused call: the four numbers of the refusal, and six zeros.
+impl From<Refusal> for Counted {
+    ghost from_gives = { λ refusal answer. answer ≡ counted_of (refused_answer refusal) no_counts };
+
+    fn from(refusal: Refusal) -> Counted {
+        Counted {
+            number: refusal.number,
+            list: refusal.list,
+            line: refusal.line,
+            place: refusal.place,
+            ..Counted::default()
+        }
+    }
+}
+
+// The answer with these counts.
+fn give(counts: Counts) -> Counted
     requires { Few counts.first
         × Few counts.second }
-    ensures { result ≡ counted_of answer counts }
+    ensures { result ≡ counted_of (answer 0 0 0 0 0) counts }
 {
-    let first = counts.first;
-    let second = counts.second;
+    let Counts { first, second } = counts;
     Counted {
-        number: answer.number,
-        list: answer.list,
-        line: answer.line,
-        place: answer.place,
         matched1: first.matched as u32,
         unmatched1: first.unmatched as u32,
         undecided1: first.undecided as u32,
         matched2: second.matched as u32,
         unmatched2: second.unmatched as u32,
         undecided2: second.undecided as u32,
+        ..Counted::default()
     }
 }
 
@@ -51,18 +63,8 @@ fn counted_of(answer: Answer, counts: Counts) -> Counted
 pub fn count(reference: &[u8], name: &[u8], first: &[u8], second: &[u8], marks: &[u8]) -> Counted
     ensures { result ≡ counted reference.now name.now first.now second.now marks.now }
 {
-    let refused = lists_refused(reference, name, first, second, marks.len() < LEAST);
-    if refused.number != 0 {
-        let none = Count {
-            matched: 0,
-            unmatched: 0,
-            undecided: 0,
-        };
-        let counts = Counts {
-            first: none,
-            second: none,
-        };
-        return counted_of(refused, counts);
+    if let Err(refusal) = lists_refused(reference, name, first, second, marks.len() < LEAST) {
+        return refusal.into();
     }
-    counted_of(refused, count_lists(first, second, marks))
+    give(count_lists(first, second, marks))
 }

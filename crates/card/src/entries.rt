@@ -4,6 +4,7 @@ ghost use Rattle.card.specs.Entries.{listed, listed_after};
 
 use crate::answer::{Answer, give};
 use crate::lists::{LEAST, lists_refused};
+use clusters::lists::Lists;
 use listed::listed::{Listed, fill_entries};
 
 // Writes the records of two lists' entries in merged order, one an entry, into `entries`, which has to have room for 1,024. Rows: 1; 2;
@@ -19,10 +20,13 @@ pub fn entries(
         × (entries.new ≡ listed_after reference.now name.now first.now second.now
         entries.old) }
 {
-    let refused = lists_refused(reference, name, first, second, entries.len() < LEAST);
-    if refused.number != 0 {
-        return refused;
+    if let Err(refusal) = lists_refused(reference, name, first, second, entries.len() < LEAST) {
+        return refusal.into();
     }
-    let n = fill_entries(reference, first, second, entries);
-    give(n as u32)
+    let lists = Lists {
+        reference,
+        first,
+        second,
+    };
+    give(fill_entries(lists, entries) as u32)
 }

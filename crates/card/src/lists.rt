@@ -1,29 +1,56 @@
-// Are the lists of a call turned away? Each answer has the four numbers of the first row that holds, four zeros where none does, and value
-// 0.
+// Are the lists of a call turned away? The refusal is that of the first row that holds.
 ghost use Rattle.std.specs.Prelude.{◌≡◌};
-ghost use Rattle.card.specs.Answer.{refused_answer};
+ghost use Rattle.bases.specs.Letter.{bases_of};
 ghost use Rattle.card.specs.Mark.{small_room?};
-ghost use Rattle.card.specs.Refusal.{first_refusal, list_checks, lists_checks};
+ghost use Rattle.card.specs.Refusal.{passed, fault_in, first_refusal, list_checks, lists_checks};
+ghost use Rattle.vcf.specs.List.{judge_text};
 
-use crate::answer::{Answer, refuse};
+use crate::refusal::Refusal;
 use bases::reference::is_reference;
 use vcf::list::judge;
 
+// Row 1: what is lent as the reference is none.
+const NO_REFERENCE: Refusal = Refusal {
+    number: 1,
+    list: 0,
+    line: 0,
+    place: 0,
+};
+
+// Row 2: lent room is too small.
+const TOO_SMALL: Refusal = Refusal {
+    number: 2,
+    list: 0,
+    line: 0,
+    place: 0,
+};
+
+// The rows of list j: the first fault of its text.
+fn text_refused(j: u32, reference: &[u8], name: &[u8], text: &[u8]) -> Result<(), Refusal>
+    ensures { result ≡ passed (fault_in j (judge_text (bases_of reference.now) name.now text.now)) }
+{
+    if let Err(fault) = judge(reference, name, text) {
+        return Err(Refusal {
+            number: fault.number,
+            list: j,
+            line: fault.line as u32,
+            place: fault.place as u32,
+        });
+    }
+    Ok(())
+}
+
 // The rows of a call with one list: 1; 2, where lent room is too small; list 1.
-pub fn list_refused(reference: &[u8], name: &[u8], text: &[u8], small: bool) -> Answer
-    ensures { result ≡ refused_answer (first_refusal (list_checks reference.now name.now text.now small)) }
+pub fn list_refused(reference: &[u8], name: &[u8], text: &[u8], small: bool) -> Result<(), Refusal>
+    ensures { result ≡ passed (first_refusal (list_checks reference.now name.now text.now small)) }
 {
     if !is_reference(reference) {
-        return refuse(1, 0, 0, 0);
+        return Err(NO_REFERENCE);
     }
     if small {
-        return refuse(2, 0, 0, 0);
+        return Err(TOO_SMALL);
     }
-    let fault = judge(reference, name, text);
-    if fault.number == 0 {
-        return refuse(0, 0, 0, 0);
-    }
-    refuse(fault.number, 1, fault.line as u32, fault.place as u32)
+    text_refused(1, reference, name, text)
 }
 
 // The rows of a call with two: the same, then list 2.
@@ -33,19 +60,12 @@ pub fn lists_refused(
     first: &[u8],
     second: &[u8],
     small: bool,
-) -> Answer
-    ensures { result ≡ refused_answer (first_refusal
+) -> Result<(), Refusal>
+    ensures { result ≡ passed (first_refusal
         (lists_checks reference.now name.now first.now second.now small)) }
 {
-    let refused = list_refused(reference, name, first, small);
-    if refused.number != 0 {
-        return refused;
-    }
-    let fault = judge(reference, name, second);
-    if fault.number == 0 {
-        return refuse(0, 0, 0, 0);
-    }
-    refuse(fault.number, 2, fault.line as u32, fault.place as u32)
+    list_refused(reference, name, first, small)?;
+    text_refused(2, reference, name, second)
 }
 
 // The least room that is lent for a plan, in clusters, for entries, and for marks, in bytes.
@@ -55,8 +75,5 @@ pub const LEAST: usize = 1_024;
 pub fn is_small(plan: usize, marks: usize) -> bool
     ensures { result ≡ small_room? plan marks }
 {
-    if plan < LEAST {
-        return true;
-    }
-    marks < LEAST
+    plan < LEAST || marks < LEAST
 }

@@ -12,10 +12,8 @@ pub fn normal(reference: &[u8], name: &[u8], text: &[u8], out: &mut [u8]) -> Ans
     ensures { (result ≡ written reference.now name.now text.now (length out.old))
         × (out.new ≡ normal_after reference.now name.now text.now out.old) }
 {
-    let refused = list_refused(reference, name, text, out.len() < text.len());
-    if refused.number != 0 {
-        return refused;
+    if let Err(refusal) = list_refused(reference, name, text, out.len() < text.len()) {
+        return refusal.into();
     }
-    let n = write_list(reference, text, out);
-    give(n as u32)
+    give(write_list(reference, text, out) as u32)
 }

@@ -4,6 +4,7 @@ ghost use Rattle.card.specs.Plan.{planned, plan_after};
 
 use crate::answer::{Answer, give};
 use crate::lists::{LEAST, lists_refused};
+use clusters::lists::Lists;
 use clusters::plan::{Cluster, fill_plan};
 
 // Cuts two lists into clusters, and writes the plan's records, one a cluster, into `plan`, which has to have room for 1,024. Rows: 1; 2;
@@ -19,10 +20,13 @@ pub fn plan(
         × (plan.new ≡ plan_after reference.now name.now first.now second.now
         plan.old) }
 {
-    let refused = lists_refused(reference, name, first, second, plan.len() < LEAST);
-    if refused.number != 0 {
-        return refused;
+    if let Err(refusal) = lists_refused(reference, name, first, second, plan.len() < LEAST) {
+        return refusal.into();
     }
-    let n = fill_plan(reference, first, second, plan);
-    give(n as u32)
+    let lists = Lists {
+        reference,
+        first,
+        second,
+    };
+    give(fill_plan(lists, plan) as u32)
 }

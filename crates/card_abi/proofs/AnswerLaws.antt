@@ -1,5 +1,6 @@
 -- The call `card_allele` answers exactly the part that `allele` shows.
 --     answer_refused, answer_there     the answer, by the refusal
+--     answer_stands                    and by the slice and the part
 --     allele_answer_number             its number is that of the companion `allele_refusal`
 --     allele_answer_refusal            where that is not 0, its first four numbers are the companion's, and the fifth is 0
 --     allele_answer_place              where it is 0, an allele is shown, and the place is 0
@@ -9,17 +10,17 @@
 use mathlib.Core.Bool.{Bool, true, false}
 use mathlib.Core.List.{List}
 use mathlib.Core.Logic.{◌≢◌}
-use mathlib.Core.Path.{◌≡◌, refl, sym, ap, ◌∙◌}
+use mathlib.Core.Path.{◌≡◌, refl, sym, ap, ap₂, ◌∙◌}
 use Prim.Native.Nat.{ℕ}
 use native.Mathlib.Decide.{ℕ_discrete}
 use borrow.Author.Tests.{eq-eqb, ne_eqb}
 use lib.Dec.{eqb}
 use lib.ListN.{take, drop}
 use Rattle.bases.specs.Pick.{pick}
+use Rattle.vcf.specs.declared.entry.Part.{Part}
 use Rattle.vcf.specs.Entry.{part}
-use Rattle.card.specs.declared.allele.Shown.{Shown}
 use Rattle.card.specs.declared.refusal.Refusal.{Refusal}
-use Rattle.card.specs.Allele.{allele_refusal, shown, bytes_shown, ptr_of, ptr_shown}
+use Rattle.card.specs.Allele.{Shown, allele_refusal, shown, bytes_shown, ptr_of, ptr_shown}
 use Rattle.card.proofs.AlleleLaws.{shown_refusal, shown_empty_iff}
 use Rattle.card.specs.declared.answer.Answer.{Answer}
 use Rattle.card.specs.Answer.{answer, refused_answer}
@@ -33,6 +34,9 @@ module _ (s : Shown) where
   pub answer_there : s.refusal.number ≡ 0 → allele_answer s ≡ answer 0 (pick s.text 1 0) s.part.at 0 s.part.len
   unfolding allele_answer
   answer_there e = rw (eq-eqb s.refusal.number 0 e)
+
+  pub answer_stands : (u : Bool) (p : Part) → s.refusal.number ≡ 0 → s.text ≡ u → s.part ≡ p → allele_answer s ≡ answer 0 (pick u 1 0) p.at 0 p.len
+  answer_stands u p e f g = answer_there e ∙ ap₂ (λ (t : Bool) (q : Part). answer 0 (pick t 1 0) q.at 0 q.len) f g
 
   answer_number : (allele_answer s).number ≡ s.refusal.number
   answer_number = go (ℕ_discrete s.refusal.number 0)

@@ -2,8 +2,8 @@
 -- Assumes nothing: these are definitions.
 use Rattle.std.specs.Prelude.{eqb}
 use Rattle.bases.specs.Pick.{pick}
-use Rattle.card.specs.declared.allele.Shown.{Shown}
 use Rattle.card.specs.declared.answer.Answer.{Answer}
+use Rattle.card.specs.Allele.{Shown}
 use Rattle.card.specs.Answer.{answer, refused_answer}
 
 -- Where what is shown stands: 0 for the reference and 1 for the text, the start there, place 0, and the length.

@@ -3,6 +3,8 @@
 --     lines_next, lines_split               the line of the next entry, and those behind it; the lines of the next cluster, and those behind
 --                                           it
 --     lines_marks                           more marks than entries
+--     lines_part                            no more marks than clusters' numbers are looked at
+--     Left                                  what is left to write
 --     Putting                               the walk over a cluster's entries behind k of them
 --     putting_begin, putting_left, putting_more, putting_end
 --                                           before the first; an entry is left; behind one entry more; behind the last
@@ -12,14 +14,15 @@ use mathlib.Core.List.{List, [], ◌∷◌, ◌++◌, append_assoc}
 use mathlib.Core.Path.{◌≡◌, refl, sym, ap, ◌∙◌}
 use Prim.Native.Nat.{ℕ, zero, suc, ◌+◌, ◌-◌, ◌*◌, ◌≤◌, ◌<◌}
 use native.Mathlib.Omega.{arith}
-use lib.ListN.{length, get_or, drop, replicate, length-append}
+use lib.ListN.{length, get_or, take, drop, replicate, length-append}
 use lib.Seq.{drop-cons}
-use Rattle.bases.specs.Put.{put}
+use Rattle.bases.specs.declared.put.Writer.{Writer}
+use Rattle.bases.specs.Wrote.{HasRoom, Wrote}
+use Rattle.bases.proofs.WroteLaws.{wrote_none, wrote_more}
 use Rattle.clusters.specs.declared.heads.Heads.{Heads}
 use Rattle.clusters.specs.declared.item.Item.{Item}
 use Rattle.clusters.specs.Heads.{Readable, items_from, done?, next_item, moved, passed}
 use Rattle.clusters.proofs.HeadsLaws.{items_some, items_step, readable_moved, passed_next}
-use Rattle.lines.proofs.WroteLaws.{Wrote, Left, left_begin, left_then, left_end}
 use Rattle.compare.specs.Printed.{entry_line, entry_lines, line_most}
 use Rattle.compare.proofs.PrintedLaws.{line_few}
 
@@ -64,69 +67,70 @@ lines_marks (k ∷ ks) [] ms more h = refl
 lines_marks (k ∷ ks) (i ∷ is) [] more h = absurd (omega arith)
 lines_marks (k ∷ ks) (i ∷ is) (m ∷ ms) more h = ap (λ (z : List ℕ). entry_line i.side i.entry.pos k m ++ z) (lines_marks ks is ms more (omega arith))
 
+pub lines_part : (n k : ℕ) (is : List Item) (ms : List ℕ) → entry_lines (replicate n k) is (take n ms) ≡ entry_lines (replicate n k) is ms
+unfolding entry_lines
+lines_part zero k is ms = refl
+lines_part (suc n) k [] ms = refl
+lines_part (suc n) k (i ∷ is) [] = refl
+lines_part (suc n) k (i ∷ is) (m ∷ ms) = ap (λ (z : List ℕ). entry_line i.side i.entry.pos k m ++ z) (lines_part n k is ms)
+
+-- Where `rest` is written from w on, all of `text` is written from o on.
+abbrev pub Left : Writer → List ℕ → Writer → List ℕ → Type 0
+Left o text w rest = (n : Writer) → Wrote w rest n → Wrote o text n
+
 -- The lines of the n entries from the cursors on, the first of which is entry j.
 abbrev cluster_lines : List ℕ → List ℕ → List ℕ → ℕ → ℕ → Heads → ℕ → List ℕ
 cluster_lines first second marks cluster n h j = entry_lines (replicate n cluster) (items_from first second h) (drop j marks)
 
-pub record Putting (first second marks : List ℕ) (cluster count i : ℕ) (start : Heads) (out₀ : List ℕ) (at₀ : ℕ) (h : Heads) (k : ℕ) (out : List ℕ) (at : ℕ) : Type 0 where
-  pub inside : k ≤ count
-  pub few : count - k ≤ length (items_from first second h)
+pub record Putting (first second marks : List ℕ) (cluster : ℕ) (start : Heads) (o : Writer) (h : Heads) (k : ℕ) (w : Writer) : Type 0 where
+  pub inside : k ≤ length marks
+  pub few : length marks - k ≤ length (items_from first second h)
   pub heads : h ≡ passed first second k start
   pub readable : Readable first second h
-  pub room : at + line_most * (count - k) ≤ length out₀
-  pub left : Left (put out₀ at₀ (cluster_lines first second marks cluster count start i)) (at₀ + length (cluster_lines first second marks cluster count start i)) (length out₀) out
-      at (cluster_lines first second marks cluster (count - k) h (i + k))
+  pub room : HasRoom w (line_most * (length marks - k))
+  pub left : Left o (cluster_lines first second marks cluster (length marks) start 0) w (cluster_lines first second marks cluster (length marks - k) h k)
 
-module _ (first second marks : List ℕ) (cluster count i : ℕ) (start : Heads) (out₀ : List ℕ) (at₀ : ℕ) where
-  pub putting_begin : Readable first second start → count ≤ length (items_from first second start) → at₀ + line_most * count ≤ length out₀
-      → Putting first second marks cluster count i start out₀ at₀ start 0 out₀ at₀
+module _ (first second marks : List ℕ) (cluster : ℕ) (start : Heads) (o : Writer) where
+  pub putting_begin : Readable first second start → length marks ≤ length (items_from first second start) → HasRoom o (line_most * length marks)
+      → Putting first second marks cluster start o start 0 o
   unfolding passed
   putting_begin r l m =
-      let e : count - 0 ≡ count = omega arith in
-      let f : i + 0 ≡ i = omega arith in
-      record {
-        inside = omega arith;
-        few = omega arith;
-        heads = refl;
-        readable = r;
-        room = omega arith;
-        left = rw (e, f) (left_begin out₀ at₀ (cluster_lines first second marks cluster count start i));
-      }
+      let e : length marks - 0 ≡ length marks = omega arith in
+      record { inside = omega arith; few = omega arith; heads = refl; readable = r; room = omega arith; left = rw e (λ n v. v) }
 
-  module _ (h : Heads) (k : ℕ) (out : List ℕ) (at : ℕ) (w : Putting first second marks cluster count i start out₀ at₀ h k out at) where
-    pub putting_end : count ≤ k
-        → (h ≡ passed first second count start)
-        × (at ≡ at₀ + length (cluster_lines first second marks cluster count start i))
-        × (out ≡ put out₀ at₀ (cluster_lines first second marks cluster count start i))
+  module _ (h : Heads) (k : ℕ) (w : Writer) (p : Putting first second marks cluster start o h k w) where
+    pub putting_end : length marks ≤ k
+        → (h ≡ passed first second (length marks) start) × Wrote o (cluster_lines first second marks cluster (length marks) start 0) w
     unfolding entry_lines
     putting_end l =
-        let e : k ≡ count = omega (arith, w.inside) in
-        let z : count - k ≡ 0 = omega arith in
-        let d = left_end _ _ _ out at (rw z at w.left) in
-        (w.heads ∙ ap (λ (n : ℕ). passed first second n start) e, d.0, d.1)
+        let e : k ≡ length marks = omega (arith, p.inside) in
+        let z : length marks - k ≡ 0 = omega arith in
+        (p.heads ∙ ap (λ (n : ℕ). passed first second n start) e, (rw z at p.left) w (wrote_none w))
 
-    module _ (less : k < count) where
+    module _ (less : k < length marks) where
       pub putting_left : done? first second h ≡ false
-      putting_left = items_some first second h (omega (arith, w.few))
+      putting_left = items_some first second h (omega (arith, p.few))
 
-      pub putting_more : i + count ≤ length marks → (r : ℕ) (e : List ℕ)
-          → Wrote out at (entry_line (next_item first second h).side (next_item first second h).entry.pos cluster (get_or marks (i + k) 0)) r e
-          → Putting first second marks cluster count i start out₀ at₀ (moved first second h (next_item first second h).side) (k + 1) e r
-      putting_more fits r e v =
+      pub putting_more : (e : Writer)
+          → Wrote w (entry_line (next_item first second h).side (next_item first second h).entry.pos cluster (get_or marks k 0)) e
+          → Putting first second marks cluster start o (moved first second h (next_item first second h).side) (k + 1) e
+      putting_more e v =
           let s = items_step first second h putting_left in
           let x = next_item first second h in
           let b = moved first second h x.side in
-          let n : count - k ≡ suc (count - (k + 1)) = omega arith in
-          let j : i + (k + 1) ≡ suc (i + k) = omega arith in
-          let line = line_few x.side x.entry.pos cluster (get_or marks (i + k) 0) in
-          let lines : cluster_lines first second marks cluster (count - k) h (i + k)
-          ≡ entry_line x.side x.entry.pos cluster (get_or marks (i + k) 0) ++ cluster_lines first second marks cluster (count - (k + 1)) b (i + (k + 1)) =
-          rw (n, s.split, j) (lines_next (count - (k + 1)) cluster x (items_from first second b) marks (i + k) (omega arith)) in
+          let n : length marks - k ≡ suc (length marks - (k + 1)) = omega arith in
+          let j : k + 1 ≡ suc k = omega arith in
+          let line = line_few x.side x.entry.pos cluster (get_or marks k 0) in
+          let lines : cluster_lines first second marks cluster (length marks - k) h k
+          ≡ entry_line x.side x.entry.pos cluster (get_or marks k 0) ++ cluster_lines first second marks cluster (length marks - (k + 1)) b (k + 1) =
+          rw (n, s.split, j) (lines_next (length marks - suc k) cluster x (items_from first second b) marks k (omega arith)) in
+          let left : Left o (cluster_lines first second marks cluster (length marks) start 0) w
+          (entry_line x.side x.entry.pos cluster (get_or marks k 0) ++ cluster_lines first second marks cluster (length marks - (k + 1)) b (k + 1)) = rw lines at p.left in
           record {
             inside = omega arith;
-            few = omega (arith, ap length s.split, w.few);
-            heads = rw w.heads (sym (passed_next first second k start));
-            readable = readable_moved first second h w.readable x.side s.inside;
-            room = omega (arith, line, w.room, v.0);
-            left = left_then _ _ _ out at _ _ r e (rw lines at w.left) (omega (arith, line, w.room)) v;
+            few = omega (arith, ap length s.split, p.few);
+            heads = rw p.heads (sym (passed_next first second k start));
+            readable = readable_moved first second h p.readable x.side s.inside;
+            room = omega (arith, line, p.room, v.at, v.long);
+            left = λ m u. left m (wrote_more (omega (arith, p.room)) v u);
           }

@@ -6,14 +6,19 @@ mod compared;
 mod line;
 mod text;
 
-use files::file::print;
+use bases::put::Writer;
 use files::given::{LISTS_ROOM, read_lists};
 use std::io;
 
 fn main(rt: HostRuntime) -> io::Result<()> {
     let mut room = [0u8; LISTS_ROOM];
-    let mut out = [0u8; text::TEXT_MOST];
     let given = read_lists(&rt, &mut room);
-    let end = compared::compare_given(&room, given, &mut out);
-    print(&rt, &out, end)
+    let mut text = [0u8; text::TEXT_MOST];
+    let mut out = Writer {
+        room: &mut text,
+        at: 0,
+    };
+    compared::compare_given(&room, given, &mut out);
+    let end = out.at;
+    rt.write_all(&text[..end])
 }

@@ -1,20 +1,18 @@
--- What is printed, by what the card tells of the two lists: its answer and the marks.
---     told_printable                  its three numbers can be printed
---     text_refused                    where it is refused, the text says so
+-- What is printed, by what the card tells of the two lists, and the marks.
+--     text_refused                    where it is refused, the refusal can be printed, and its line is what is printed
 --     text_counts, text_few, text_accepted
 --                                     else both lists can be counted, the counts can be printed, and their line is what is printed
 --     counted_call                    the counts that are printed are those that the call `count` answers for the marks that `mark_all`
 --                                     leaves
 -- Assumes nothing.
 use mathlib.Core.List.{List}
-use mathlib.Core.Logic.{◌≢◌}
 use mathlib.Core.Path.{◌≡◌, sym, ap, ◌∙◌}
 use Prim.Native.Nat.{ℕ, ◌+◌, ◌≤◌}
 use native.Mathlib.Omega.{arith}
 use lib.Dec.{ltb}
 use lib.ListN.{length, drop}
+use Rattle.std.specs.Prelude.{Ok, Err}
 use Rattle.bases.specs.Letter.{bases_of}
-use Rattle.card.specs.declared.all.AllMarked.{AllMarked}
 use Rattle.card.specs.declared.refusal.Refusal.{Refusal}
 use Rattle.card.specs.All.{all_refusal, all_bytes}
 use Rattle.card.specs.Answer.{answer, refused_answer}
@@ -35,30 +33,26 @@ use Rattle.clusters.specs.Merged.{merged_items}
 use Rattle.marks.proofs.CountLaws.{counts_few, counts_marks}
 use Rattle.clusters.proofs.HeadsLaws.{ready_readable}
 use Rattle.files.specs.File.{reference_in}
-use Rattle.lines.specs.Lines.{largest_number, refused_text}
-use Rattle.told.specs.Files.{refusal_of, files_answered, files_marks}
-use Rattle.told.proofs.FilesLaws.{Tells, files_tell, files_printable, accepted_files, files_answerable, files_marks_lem, files_marked}
-use Rattle.told.proofs.ToldLaws.{numbers_refused, numbers_text}
+use Rattle.lines.specs.Lines.{refused_text}
+use Rattle.told.specs.declared.marked.Marked.{Marked}
+use Rattle.told.specs.Files.{refusal_of, files_told, files_marks}
+use Rattle.told.specs.Told.{Printable}
+use Rattle.told.proofs.FilesLaws.{accepted_files, files_answerable, files_marks_lem, files_marked, told_err, told_ok}
+use Rattle.told.proofs.ToldLaws.{told_text_lem}
 use Rattle.counts.specs.Counted.{counts_line, counts_for, counted_text}
 
-module _ (file name first second : List ℕ) (answer : AllMarked) (before marks : List ℕ) (long : length before ≡ least_room)
-    (answered : answer ≡ files_answered file name first second before) (wrote : marks ≡ files_marks file name first second before) where
+module _ (file name first second before : List ℕ) (long : length before ≡ least_room) where
   abbrev r : List ℕ
   r = reference_in file
 
-  tells : Tells answer (refusal_of file name first second)
-  tells = rw answered (files_tell file name first second before long)
-
-  pub told_printable : (answer.number ≤ largest_number) × (answer.list ≤ largest_number) × (answer.line ≤ largest_number) × (answer.place ≤ largest_number)
-  told_printable = files_printable file name first second before long answer tells
-
-  pub text_refused : answer.number ≢ 0 → counted_text file name first second ≡ refused_text answer.number answer.list answer.line answer.place
+  pub text_refused : (q : Refusal) → Err q ≡ files_told file name first second before
+      → Printable q × (refused_text q.number q.list q.line q.place ≡ counted_text file name first second)
   unfolding counted_text
-  text_refused n = numbers_refused answer.number answer.list answer.line answer.place (refusal_of file name first second) tells (counts_line (counts_for (bases_of r) first second)) n
+  text_refused q e = let t = told_err file name first second before long q e in (t.0, sym (t.1 (counts_line (counts_for (bases_of r) first second))))
 
-  module _ (zero : answer.number ≡ 0) where
+  module _ (m : Marked) (e : Ok m ≡ files_told file name first second before) (marks : List ℕ) (wrote : marks ≡ files_marks file name first second before) where
     z : (refusal_of file name first second).number ≡ 0
-    z = sym tells.same_number ∙ zero
+    z = told_ok file name first second before long m e
 
     pub text_counts : Readable first second (start_heads first second) × (length (merged_items first second) ≤ length marks) × (length (merged_items first second) ≤ most_entries)
     text_counts =
@@ -75,7 +69,7 @@ module _ (file name first second : List ℕ) (answer : AllMarked) (before marks 
         let accept = accepted_files file name first second z in
         let same = counts_marks (merged_items first second) own (drop (0 + length own) before) (omega (arith, marks_all (bases_of r) name first second accept.0 accept.1)) in
         ap counts_line (e ∙ ap (counts_of (merged_items first second)) (wrote ∙ files_marks_lem file name first second before long z) ∙ same)
-        ∙ sym (numbers_text answer.number answer.list answer.line answer.place (refusal_of file name first second) tells (counts_line (counts_for (bases_of r) first second)) zero)
+        ∙ sym (told_text_lem (refusal_of file name first second) (counts_line (counts_for (bases_of r) first second)) z)
 
 module _ (reference name first second : List ℕ) (plan : List Cluster) (marks : List ℕ) (z : (all_refusal reference name first second (length plan) (length marks)).number ≡ 0) where
   -- the marks of all clusters, and the bytes that hold them

@@ -4,14 +4,19 @@
 
 mod counted;
 
-use files::file::print;
+use bases::put::Writer;
 use files::given::{LISTS_ROOM, read_lists};
 use std::io;
 
 fn main(rt: HostRuntime) -> io::Result<()> {
     let mut room = [0u8; LISTS_ROOM];
-    let mut out = [0u8; counted::COUNTED_MOST];
     let given = read_lists(&rt, &mut room);
-    let end = counted::count_given(&room, given, &mut out);
-    print(&rt, &out, end)
+    let mut line = [0u8; counted::COUNTED_MOST];
+    let mut out = Writer {
+        room: &mut line,
+        at: 0,
+    };
+    counted::count_given(&room, given, &mut out);
+    let end = out.at;
+    rt.write_all(&line[..end])
 }

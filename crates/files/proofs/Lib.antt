@@ -1,3 +1,4 @@
 pub mod Determines
 pub mod FileLaws
 pub mod NameLaws
+pub mod PrintLaws

@@ -9,15 +9,14 @@ use native.Mathlib.Omega.{arith}
 use borrow.Author.Tests.{ne_eqb, ltb-false}
 use lib.ListN.{length, drop}
 use Rattle.bases.proofs.TestLaws.{of_true, of_false}
-use Rattle.bases.specs.Pick.{pick}
 use Rattle.bases.specs.Same.{same?}
 use Rattle.fields.proofs.FieldLaws.{until_within, field_length, skip_zero, full_stop}
 use Rattle.vcf.specs.declared.list.Stage.{Stage}
+use Rattle.vcf.specs.declared.list.Stage.TheVariants.{Above, Below}
 use Rattle.fields.specs.Bytes.{TAB, until}
 use Rattle.fields.specs.Field.{field_at, field_from, field, field_count, ten_fields?}
-use Rattle.fields.specs.Header.{header_wrong?}
 use Rattle.vcf.specs.List.{lines_of, above, next_stage, line_rows, judge_lines, judge_text}
-use Rattle.records.specs.Record.{longest_line, too_long?, chrom_wrong?, record_rows}
+use Rattle.records.specs.Record.{longest_line, too_long?, chrom_wrong?}
 use Rattle.bases.specs.First.{first_told}
 use Rattle.records.specs.Row.{Row, row, first_row}
 
@@ -42,13 +41,8 @@ module _ (name : List ℕ) (long : longest_line < length name) where
   line_same l a b more false e true e6 = rw (long_wrong l e, empty_wrong l e6)
 
   rows_same : (reference : List ℕ) (s : Stage) (n : ℕ) (l : List ℕ) → first_row (line_rows reference name s n l) ≡ first_row (line_rows reference [] s n l)
-  rows_same reference s n l = go s.below
-    where
-      go : (b : Bool)
-          → first_row (pick b (record_rows reference name s.records s.last l) (row 4 (too_long? l) ∷ row 5 (header_wrong? n l) ∷ []))
-          ≡ first_row (pick b (record_rows reference [] s.records s.last l) (row 4 (too_long? l) ∷ row 5 (header_wrong? n l) ∷ []))
-      go true = line_same l _ _ _ (too_long? l) refl (ten_fields? l) refl
-      go false = refl
+  rows_same reference Above n l = refl
+  rows_same reference (Below records last) n l = line_same l _ _ _ (too_long? l) refl (ten_fields? l) refl
 
   lines_same : (reference : List ℕ) (s : Stage) (n : ℕ) (ls : List (List ℕ)) → judge_lines reference name s n ls ≡ judge_lines reference [] s n ls
   unfolding judge_lines

@@ -1,10 +1,9 @@
-// A program's files, read into lent room, and what it prints.
-ghost use Rattle.std.specs.Prelude.{◌≡◌, ◌≤◌, length};
+// A program's files, read into lent room.
+ghost use Rattle.std.specs.Prelude.{◌≡◌};
 ghost use Rattle.files.specs.File.{IsPrefixLen, ends_in_lf?};
 
 use fields::bytes::LF;
 use std::fs::File;
-use std::io;
 use std::io::Read;
 use std::rt::Files;
 use std::str::from_utf8;
@@ -15,20 +14,16 @@ use vcf::list::LONGEST_TEXT;
 pub const FILE_ROOM: usize = LONGEST_TEXT + 1;
 
 // Reads into the room, from its start on, until the room is full, the file ends or a read fails, and answers how many bytes that are. A
-// pipe gives its bytes in parts, each read the next.
+// pipe gives its bytes in parts, each read the next: how far the room is filled is what a read says, so no `for` counts it.
 fn read_full(file: &mut impl Read, room: &mut [u8]) -> usize
     ensures { IsPrefixLen result room.new }
 {
     let mut done = 0;
     while done < room.len() {
-        let got = match file.read(&mut room[done..]) {
-            Ok(n) => n,
-            Err(_) => 0,
-        };
-        if got == 0 {
-            break;
+        match file.read(&mut room[done..]) {
+            Ok(0) | Err(_) => break,
+            Ok(n) => done += n,
         }
-        done += got;
     }
     done
 }
@@ -51,16 +46,5 @@ pub fn read_file(rt: &impl Files, path: &[u8], room: &mut [u8]) -> usize
 pub fn ends_in_lf(file: &[u8]) -> bool
     ensures { result ≡ ends_in_lf? file.now }
 {
-    let n = file.len();
-    if n == 0 {
-        return false;
-    }
-    file[n - 1] == LF
-}
-
-// Prints the bytes up to an end. On `Ok` all of them are written; on an error of standard output some of them may be.
-pub fn print(rt: &impl Print, text: &[u8], end: usize) -> io::Result<()>
-    requires { end ≤ length text.now }
-{
-    rt.write_all(&text[0..end])
+    file.last() == Some(&LF)
 }

@@ -2,10 +2,10 @@
 ghost use Rattle.std.specs.Prelude.{◌≡◌, ◌+◌, ◌≤◌, length, take};
 ghost use Rattle.bases.specs.Put.{put};
 ghost use Rattle.files.specs.File.{chrom_name};
-ghost use Rattle.files.specs.Given.{name_room, file_room, list_room, lists_room, Laid};
+ghost use Rattle.files.specs.Given.{name_room, file_room, list_room, lists_room, name_in, file_in, first_in, second_in, Laid};
 
 use crate::file::{FILE_ROOM, read_file};
-use bases::put::put_bytes;
+use bases::put::Writer;
 use records::record::LONGEST_LINE;
 use std::env::FillError;
 use std::rt::{Env, Files};
@@ -17,6 +17,40 @@ pub struct Given {
     pub reference: usize,
     pub first: usize,
     pub second: usize,
+}
+
+// The parts of the room in which the program's name and files were laid.
+impl Given {
+    pub fn name(self, room: &[u8]) -> &[u8]
+        requires { Laid self (length room.now) }
+        ensures { result.now ≡ name_in room.now self }
+    {
+        &room[..self.name]
+    }
+
+    // The reference file.
+    pub fn reference(self, room: &[u8]) -> &[u8]
+        requires { Laid self (length room.now) }
+        ensures { result.now ≡ file_in room.now self }
+    {
+        &room[self.name..self.reference]
+    }
+
+    // List 1.
+    pub fn first(self, room: &[u8]) -> &[u8]
+        requires { Laid self (length room.now) }
+        ensures { result.now ≡ first_in room.now self }
+    {
+        &room[self.reference..self.first]
+    }
+
+    // List 2.
+    pub fn second(self, room: &[u8]) -> &[u8]
+        requires { Laid self (length room.now) }
+        ensures { result.now ≡ second_in room.now self }
+    {
+        &room[self.first..self.second]
+    }
 }
 
 // As long as the longest line: no CHROM is longer.
@@ -33,7 +67,9 @@ fn put_chrom(room: &mut [u8]) -> usize
     ensures { (result ≡ length chrom_name)
         × (room.new ≡ put room.old 0 chrom_name) }
 {
-    put_bytes(b"chr1", room, 0)
+    let mut out = Writer { room, at: 0 };
+    out.bytes(b"chr1");
+    out.at
 }
 
 // Reads the name into the room, from its start on, and says where it ends. It is the first argument, whose bytes need not be UTF-8. One
@@ -56,8 +92,7 @@ fn read_behind(rt: &impl Files, path: &[u8], room: &mut [u8], at: usize) -> usiz
         × (result ≤ at + file_room)
         × (take at room.new ≡ take at room.old) }
 {
-    let end = at + FILE_ROOM;
-    at + read_file(rt, path, &mut room[at..end])
+    at + read_file(rt, path, &mut room[at..at + FILE_ROOM])
 }
 
 // Reads the name, reference.txt and first.vcf. List 2 is empty.
@@ -82,12 +117,6 @@ pub fn read_lists(rt: &(impl Env + Files), room: &mut [u8]) -> Given
     ensures { Laid result (length room.new) }
 {
     let given = read_list(rt, room);
-    let first = given.first;
-    let second = read_behind(rt, b"second.vcf", room, first);
-    Given {
-        name: given.name,
-        reference: given.reference,
-        first,
-        second,
-    }
+    let second = read_behind(rt, b"second.vcf", room, given.first);
+    Given { second, ..given }
 }

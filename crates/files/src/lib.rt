@@ -1,4 +1,4 @@
-// What the programs read and print: their name and files, the reference file's LF, and what was written.
+// What the programs read: their name and files, and the reference file's LF.
 // The contracts cite specs/.
 #![tactic(auto)]
 

@@ -5,6 +5,7 @@
 --     sum_bounded            its entries are at most 512 a run, in each list
 --     bounded_more, bounded_room   so many are at most those of 256 runs, and there is room for one run more
 --     runs_read_le, runs_read_few   no more than 256 runs are added up, and no more than there are
+--     runs_read_all          all of 256 at most
 --     sum_none, sum_more     the sum before the first run, and with one more
 --     sum_large, sum_total   it tells whether a run is too large; where none is, it is the total
 --     sum_answers            what is answered for the sum of the runs that are added up is the lot
@@ -16,7 +17,7 @@ use mathlib.Core.Path.{◌≡◌, refl, sym, ap, ◌∙◌}
 use Prim.Native.Nat.{ℕ, zero, suc, ◌+◌, ◌≤◌, ◌<◌, ◌^◌}
 use native.Mathlib.Numerals.{add-one}
 use native.Mathlib.Omega.{arith}
-use borrow.Author.Tests.{ltb-false}
+use borrow.Author.Tests.{le-ltb, ltb-false}
 use lib.Dec.{ltb}
 use lib.ListN.{length, get_or, take}
 use lib.Seq.{take-length}
@@ -103,6 +104,9 @@ runs_read_few n = go (ltb most_runs n)
     go : (t : Bool) → pick t 0 n ≤ n
     go true = omega arith
     go false = omega arith
+
+pub runs_read_all : (n : ℕ) → n ≤ most_runs → runs_read n ≡ n
+runs_read_all n h = ap (λ (t : Bool). pick t 0 n) (le-ltb most_runs n h)
 
 module _ (rs : List Run) where
   pub sum_none : no_sum ≡ sum_at rs 0

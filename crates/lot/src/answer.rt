@@ -6,11 +6,12 @@ ghost use Rattle.lot.specs.Run.{most_runs};
 
 use crate::run::Run;
 use crate::share::{Share, share_of};
-use crate::sum::{Sum, no_sum};
+use crate::sum::Sum;
 
 // Where it is refused: the number, list, line and place of the refusal, and zeros. Else these four are 0, the totals of the six counts, the
-// entries of the truth and of what was called, and recall and precision.
-#[derive(Clone, Copy)]
+// entries of the truth and of what was called, and recall and precision. The four stand beside these, not in a Result, since the definition
+// `lot_of` and the theorem `lot_answered_iff` name them so.
+#[derive(Clone, Copy, Default)]
 pub struct Lot {
     pub number: u32,
     pub list: u32,
@@ -32,37 +33,13 @@ const WRONG_RUNS: u32 = 30;
 // A run's counts exceed 512 in a list.
 const LARGE_RUN: u32 = 31;
 
-// The row that holds of n runs, one of which is too large or none; 0 where no row holds.
-fn row_of(n: usize, large: bool) -> u32
-    ensures { result ≡ row_of n large }
-{
-    if (n == 0) | (MOST_RUNS < n) {
-        return WRONG_RUNS;
-    }
-    if large { LARGE_RUN } else { 0 }
-}
-
 // The lot is refused, for this row.
 fn refuse(number: u32) -> Lot
     ensures { result ≡ refused_lot number }
 {
-    let none = Share {
-        top: 0,
-        bottom: 0,
-        ppm: 0,
-    };
-    let sum = no_sum();
-    let total = sum.total;
     Lot {
         number,
-        list: 0,
-        line: 0,
-        place: 0,
-        total,
-        truth: 0,
-        called: 0,
-        recall: none,
-        precision: none,
+        ..Lot::default()
     }
 }
 
@@ -78,15 +55,12 @@ fn give(total: Run) -> Lot
     let recall = share_of(total.matched1, decided_truth);
     let precision = share_of(total.matched2, decided_called);
     Lot {
-        number: 0,
-        list: 0,
-        line: 0,
-        place: 0,
         total,
         truth,
         called,
         recall,
         precision,
+        ..Lot::default()
     }
 }
 
@@ -95,10 +69,11 @@ pub fn answer_of(n: usize, sum: Sum) -> Lot
     requires { Bounded most_runs sum.total }
     ensures { result ≡ answer_of (row_of n sum.large) sum.total }
 {
-    let number = row_of(n, sum.large);
-    if number != 0 {
-        return refuse(number);
+    if n == 0 || MOST_RUNS < n {
+        return refuse(WRONG_RUNS);
     }
-    let total = sum.total;
-    give(total)
+    if sum.large {
+        return refuse(LARGE_RUN);
+    }
+    give(sum.total)
 }

@@ -5,8 +5,8 @@ ghost use Rattle.lot.specs.Run.{run_of, above?, large?};
 use card::count::Counted;
 use records::record::MOST_RECORDS;
 
-// List 1 is the truth, list 2 what the run called.
-#[derive(Clone, Copy)]
+// List 1 is the truth, list 2 what the run called. Six fields, not three twice: the definitions here and in lot_report name them.
+#[derive(Clone, Copy, Default)]
 pub struct Run {
     pub matched1: u32,
     pub unmatched1: u32,
@@ -44,5 +44,5 @@ pub fn is_large(run: Run) -> bool
     ensures { result ≡ large? run }
 {
     is_above(run.matched1, run.unmatched1, run.undecided1)
-        | is_above(run.matched2, run.unmatched2, run.undecided2)
+        || is_above(run.matched2, run.unmatched2, run.undecided2)
 }

@@ -4,8 +4,9 @@ ghost use Rattle.lot.specs.Sum.{no_sum, add_run, HasRoom};
 
 use crate::run::{Run, is_large};
 
-// The counts of the runs so far that are not too large, added up, and whether one was too large.
-#[derive(Clone, Copy)]
+// The counts of the runs so far that are not too large, added up, and whether one was too large: `add_run` of specs/Sum.antt adds on behind
+// one that was.
+#[derive(Clone, Copy, Default)]
 pub struct Sum {
     pub total: Run,
     pub large: bool,
@@ -15,17 +16,7 @@ pub struct Sum {
 pub fn no_sum() -> Sum
     ensures { result ≡ no_sum }
 {
-    Sum {
-        total: Run {
-            matched1: 0,
-            unmatched1: 0,
-            undecided1: 0,
-            matched2: 0,
-            unmatched2: 0,
-            undecided2: 0,
-        },
-        large: false,
-    }
+    Sum::default()
 }
 
 // The sum with one run more.
@@ -33,10 +24,10 @@ pub fn add_run(sum: Sum, run: Run) -> Sum
     requires { HasRoom sum.total }
     ensures { result ≡ add_run sum run }
 {
-    let total = sum.total;
     if is_large(run) {
-        return Sum { total, large: true };
+        return Sum { large: true, ..sum };
     }
+    let total = sum.total;
     Sum {
         total: Run {
             matched1: total.matched1 + run.matched1,
@@ -46,6 +37,6 @@ pub fn add_run(sum: Sum, run: Run) -> Sum
             unmatched2: total.unmatched2 + run.unmatched2,
             undecided2: total.undecided2 + run.undecided2,
         },
-        large: sum.large,
+        ..sum
     }
 }

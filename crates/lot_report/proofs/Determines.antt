@@ -1,5 +1,5 @@
--- Each contract determines its result, and what it leaves in the room that it is lent: any two that it allows for the same arguments are
--- equal. `Post` is the contract as src/ states it. What `read_file` reads is not told by a contract. Assumes nothing.
+-- Each contract determines its result, and what it leaves in the room that it is lent and where its writer stands: any two that it allows
+-- for the same arguments are equal. `Post` is the contract as src/ states it. What `read_file` reads is not told by a contract. Assumes nothing.
 use mathlib.Core.List.{List}
 use mathlib.Core.Path.{sym, ◌∙◌}
 use Prim.Native.Nat.{ℕ}
@@ -51,20 +51,20 @@ count_lines_determines κs a z z' e e' p q = p ∙ sym q
 pub first_runs_determines : OneResult 1 first-runs-kinds.ps first-runs-kinds.r first_runs.Post
 first_runs_determines κs a z z' e e' p q = p ∙ sym q
 
-pub put_share_determines : OneResult 1 put-share-kinds.ps put-share-kinds.r put-share.Post
-put_share_determines κs a z z' e e' p q = p.0 ∙ sym q.0
+pub put_share_determines : OneLeft 2 put-share-kinds.ps put-share-kinds.r put-share.Post ℕ (λ κs e. e.1.1.0.now.at)
+put_share_determines κs a z z' e e' p q = p.at ∙ sym q.at
 
-pub put_share_leaves : OneLeft 1 put-share-kinds.ps put-share-kinds.r put-share.Post (List ℕ) (λ κs e. e.1.1.0.now)
-put_share_leaves κs a z z' e e' p q = p.1 ∙ sym q.1
+pub put_share_leaves : OneLeft 2 put-share-kinds.ps put-share-kinds.r put-share.Post (List ℕ) (λ κs e. e.1.1.0.now.room.now)
+put_share_leaves κs a z z' e e' p q = p.room ∙ sym q.room
 
-pub put_table_determines : OneResult 2 put-table-kinds.ps put-table-kinds.r put-table.Post
-put_table_determines κs a z z' e e' p q = p.0 ∙ sym q.0
+pub put_table_determines : OneLeft 3 put-table-kinds.ps put-table-kinds.r put-table.Post ℕ (λ κs e. e.1.1.0.now.at)
+put_table_determines κs a z z' e e' p q = p.at ∙ sym q.at
 
-pub put_table_leaves : OneLeft 2 put-table-kinds.ps put-table-kinds.r put-table.Post (List ℕ) (λ κs e. e.1.1.1.0.now)
-put_table_leaves κs a z z' e e' p q = p.1 ∙ sym q.1
+pub put_table_leaves : OneLeft 3 put-table-kinds.ps put-table-kinds.r put-table.Post (List ℕ) (λ κs e. e.1.1.0.now.room.now)
+put_table_leaves κs a z z' e e' p q = p.room ∙ sym q.room
 
-pub report_text_determines : OneResult 2 report-text-kinds.ps report-text-kinds.r report-text.Post
-report_text_determines κs a z z' e e' p q = p.0 ∙ sym q.0
+pub report_text_determines : OneLeft 3 report-text-kinds.ps report-text-kinds.r report-text.Post ℕ (λ κs e. e.1.0.now.at)
+report_text_determines κs a z z' e e' p q = p.0.at ∙ sym q.0.at
 
-pub report_text_leaves : OneLeft 2 report-text-kinds.ps report-text-kinds.r report-text.Post (List ℕ) (λ κs e. e.1.0.now)
-report_text_leaves κs a z z' e e' p q = p.1 ∙ sym q.1
+pub report_text_leaves : OneLeft 3 report-text-kinds.ps report-text-kinds.r report-text.Post (List ℕ) (λ κs e. e.1.0.now.room.now)
+report_text_leaves κs a z z' e e' p q = p.0.room ∙ sym q.0.room

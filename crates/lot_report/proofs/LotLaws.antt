@@ -25,8 +25,8 @@ use Rattle.lot.specs.Lot.{lot_row, refused_lot, given_lot, lot_of, lot_of_first}
 use Rattle.lot.specs.Run.{most_runs, large?, any_large?, total_of}
 use Rattle.lot_report.specs.Printable.{PrintableShare, Printable}
 
-pub lot_alone : (r : Run) → lot_of_first 1 (replicate most_runs r) ≡ lot_of (r ∷ [])
-lot_alone r = first_given (r ∷ []) (replicate most_runs r) (λ few. refl)
+pub lot_alone : (r x : Run) (l : Lot) → x ≡ r → l ≡ lot_of_first 1 (replicate most_runs x) → l ≡ lot_of (r ∷ [])
+lot_alone r x l e k = k ∙ rw e (first_given (r ∷ []) (replicate most_runs r) (λ few. refl))
 
 -- The number of a lot.
 lot_row_lem : (rs : List Run) → (lot_of rs).number ≡ lot_row rs

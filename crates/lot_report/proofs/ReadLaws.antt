@@ -1,42 +1,32 @@
 -- Laws of runs read into room.
---     filled                          the room once the runs on the lines from a place on are read into it, from run n on
---     filled_full, filled_past        nothing is left to read: there is no more room; there is no more line
+--     filled                          the room once the runs on lines are read into it, from run n on
 --     filled_more                     behind one run more
 --     lot_read, lot_made              the lot of the runs that were read
 -- Assumes nothing.
 use mathlib.Core.List.{List, [], ◌∷◌}
 use mathlib.Core.Path.{◌≡◌, ap, ◌∙◌}
-use Prim.Native.Nat.{ℕ, suc, ◌+◌, ◌-◌, ◌≤◌, ◌<◌}
+use Prim.Native.Nat.{ℕ, suc, ◌+◌, ◌-◌, ◌<◌}
 use native.Mathlib.Omega.{arith}
-use lib.ListN.{length, take, drop, set, length-map}
+use lib.ListN.{length, take, set, length-map}
 use lib.Seq.{take_all}
-use Rattle.bases.proofs.PutLaws.{put_none, put_put, put_set, take_put}
+use Rattle.bases.proofs.PutLaws.{put_put, put_set, take_put}
 use Rattle.bases.specs.Put.{put}
 use Rattle.lot.proofs.SumLaws.{first_given}
 use Rattle.lot.specs.declared.answer.Lot.{Lot}
 use Rattle.lot.specs.declared.run.Run.{Run}
 use Rattle.lot.specs.Lot.{lot_of, lot_of_first}
 use Rattle.lot.specs.Run.{most_runs}
-use Rattle.vcf.proofs.ListLaws.{lines_at, lines_past}
-use Rattle.vcf.specs.Entry.{line_at, next_line}
-use Rattle.vcf.specs.List.{lines_of}
 use Rattle.lot_report.specs.Run.{run_on, runs_on, no_runs}
 
-abbrev pub filled : List ℕ → ℕ → ℕ → List Run → List Run
-filled t a n runs = put runs n (take (most_runs - n) (runs_on (lines_of (drop a t))))
+abbrev pub filled : List (List ℕ) → ℕ → List Run → List Run
+filled ls n runs = put runs n (take (most_runs - n) (runs_on ls))
 
-pub filled_full : (t : List ℕ) (a n : ℕ) (runs : List Run) → most_runs ≤ n → filled t a n runs ≡ runs
-filled_full t a n runs h = let e : most_runs - n ≡ 0 = omega arith in rw e (put_none runs n)
-
-pub filled_past : (t : List ℕ) (a n : ℕ) (runs : List Run) → length t ≤ a → filled t a n runs ≡ runs
-filled_past t a n runs h = rw (lines_past t a h) (rw (take_all {A = Run} (most_runs - n) [] (omega arith)) (put_none runs n))
-
-pub filled_more : (t : List ℕ) (a n : ℕ) (runs : List Run) → a < length t → n < most_runs → length runs ≡ most_runs
-    → filled t (next_line t a) (n + 1) (set runs n (run_on (line_at t a))) ≡ filled t a n runs
-filled_more t a n runs h k m =
-    let r = run_on (line_at t a) in
+pub filled_more : (l : List ℕ) (ls : List (List ℕ)) (n : ℕ) (runs : List Run) → n < most_runs → length runs ≡ most_runs
+    → filled ls (n + 1) (set runs n (run_on l)) ≡ filled (l ∷ ls) n runs
+filled_more l ls n runs k m =
+    let r = run_on l in
     let e : most_runs - n ≡ suc (most_runs - (n + 1)) = omega arith in
-    rw (e, lines_at t a h, put_set runs n r (omega arith)) (put_put runs n (omega arith) (r ∷ []) (take (most_runs - (n + 1)) (runs_on (lines_of (drop (next_line t a) t)))))
+    rw (e, put_set runs n r (omega arith)) (put_put runs n (omega arith) (r ∷ []) (take (most_runs - (n + 1)) (runs_on ls)))
 
 pub lot_read : (rs : List Run) → lot_of_first (length rs) (put no_runs 0 (take most_runs rs)) ≡ lot_of rs
 lot_read rs = first_given rs (put no_runs 0 (take most_runs rs)) (λ few. rw (take_all most_runs rs few) (whole rs))

@@ -4,31 +4,34 @@
 --                                              n counts from a place on: none, behind the end, at a field that is no count, and at one
 --                                              that is
 --     counts_field, run_field                  each count of a line begins within it, and is all digits
---     bad_none, bad_stop, bad_more             the first line that is no run: of no line, the first, or behind it
+--     bad_none, bad_more                       the first line that is no run: of no line, or behind one that is a run
 --     bad_few, bad_runs                        it is one of the lines; where there is none, each is a run
---     runs_here, runs_next                     where each line from a place on is a run, so is the one there, and each behind it
---     lines_few                                a text has no more lines than bytes
+--     runs_first                               where each line is a run, so is the first, and each behind it
+--     no_run?, bad_position                    by how many lines are before it
+--     bad_told, none_told                      what the answer tells of the lines
 -- Assumes nothing.
-use mathlib.Core.Bool.{Bool, true, false, ◌&&◌}
+use mathlib.Core.Bool.{Bool, true, false, not, ◌&&◌, cond}
 use mathlib.Core.List.{List, [], ◌∷◌}
-use mathlib.Core.Path.{◌≡◌, refl, sym, ◌∙◌}
+use mathlib.Core.Path.{◌≡◌, refl, sym, ap, ◌∙◌}
 use Prim.Native.Nat.{ℕ, zero, suc, ◌+◌, ◌-◌, ◌≤◌, ◌<◌}
 use native.Mathlib.Nat.{not-suc-le-zero, le_of_suc-le-suc}
 use native.Mathlib.Omega.{arith}
-use borrow.Author.Tests.{lt-ltb}
+use borrow.Author.Tests.{lt-ltb, ne_eqb, eqb-true, eqb-false}
+use Rattle.std.proofs.Common.{Option, Some, None}
+use Rattle.std.proofs.lemmas.Iterator.Adapters.{position_from-zero}
+use Rattle.std.specs.List.{position_from, position_or_len}
+use Rattle.std.specs.Option.{option_map}
+use Rattle.std.proofs.lemmas.Option.{none-some, same_Some}
 use lib.Dec.{T, eqb, ltb}
-use lib.ListN.{length, drop}
+use lib.ListN.{length}
 use Rattle.bases.proofs.TestLaws.{of_true, of_false, is_true, both}
 use Rattle.bases.specs.Pick.{pick}
 use Rattle.fields.proofs.FieldLaws.{until_within, field_length, skip_more}
-use Rattle.vcf.proofs.ListLaws.{lines_at}
-use Rattle.fields.specs.Bytes.{LF, TAB}
-use Rattle.vcf.specs.Entry.{line_at, next_line}
+use Rattle.fields.specs.Bytes.{TAB}
 use Rattle.fields.specs.Field.{field_end, field_from, field, field_at, skip}
-use Rattle.vcf.specs.List.{onto, lines_of}
 use Rattle.fields.specs.Pos.{all_digits?}
 use Rattle.lot_report.specs.Count.{count?}
-use Rattle.lot_report.specs.Run.{counts_of_run, counts?, run?, bad_line, all_runs?}
+use Rattle.lot_report.specs.Run.{counts_of_run, counts?, run?, bad_line, bad_run, all_runs?}
 use Rattle.lot_report.proofs.CountLaws.{count_none, count_digits}
 
 pub run_unnamed : (l : List ℕ) → field_end l 0 ≡ 0 → run? l ≡ false
@@ -79,10 +82,6 @@ pub bad_none : (n : ℕ) → bad_line n [] ≡ 0
 unfolding bad_line
 bad_none n = refl
 
-pub bad_stop : (n : ℕ) (l : List ℕ) (ls : List (List ℕ)) → run? l ≡ false → bad_line n (l ∷ ls) ≡ n
-unfolding bad_line
-bad_stop n l ls e = rw e
-
 pub bad_more : (n : ℕ) (l : List ℕ) (ls : List (List ℕ)) → run? l ≡ true → bad_line n (l ∷ ls) ≡ bad_line (n + 1) ls
 unfolding bad_line
 bad_more n l ls e = rw e
@@ -105,23 +104,39 @@ bad_runs n (l ∷ ls) h e = go (run? l) (bad_runs (n + 1) ls (omega arith)) e
     go true r k = r k
     go false r k = absurd (omega arith)
 
-module _ (t : List ℕ) (a : ℕ) (h : a < length t) (r : T (all_runs? (lines_of (drop a t)))) where
-  two : T (run? (line_at t a)) × T (all_runs? (lines_of (drop (next_line t a) t)))
-  unfolding all_runs?
-  two = (both (run? (line_at t a)) (all_runs? (lines_of (drop (next_line t a) t)))).0 (rw (lines_at t a h) at r)
+pub runs_first : (l : List ℕ) (ls : List (List ℕ)) → T (all_runs? (l ∷ ls)) → T (run? l) × T (all_runs? ls)
+unfolding all_runs?
+runs_first l ls r = (both (run? l) (all_runs? ls)).0 r
 
-  pub runs_here : T (run? (line_at t a))
-  runs_here = two.0
-
-  pub runs_next : T (all_runs? (lines_of (drop (next_line t a) t)))
-  runs_next = two.1
-
-pub lines_few : (t : List ℕ) → length (lines_of t) ≤ length t
-unfolding lines_of
-lines_few [] = omega arith
-lines_few (b ∷ bs) = go (eqb b LF) (lines_of bs) (lines_few bs)
+-- what an answer tells of the lines
+pub bad_told : (ls : List (List ℕ)) (n : ℕ) → Some n ≡ bad_run ls → (bad_line 2 ls ≡ n) × (n ≡ 0 → ⊥)
+bad_told ls n e = go (eqb (bad_line 2 ls) 0) refl
   where
-    go : (x : Bool) (ls : List (List ℕ)) → length ls ≤ length bs → length (pick x ([] ∷ ls) (onto b ls)) ≤ suc (length bs)
-    go true ls h = omega arith
-    go false [] h = omega arith
-    go false (l ∷ ls) h = omega arith
+    go : (t : Bool) → eqb (bad_line 2 ls) 0 ≡ t → (bad_line 2 ls ≡ n) × (n ≡ 0 → ⊥)
+    go true k = absurd (none-some n (sym (rw k at e)))
+    go false k = let same : n ≡ bad_line 2 ls = same_Some n (bad_line 2 ls) (rw k at e) in (sym same, λ z. eqb-false (bad_line 2 ls) 0 k (sym same ∙ z))
+
+pub none_told : (ls : List (List ℕ)) → None ≡ bad_run ls → bad_line 2 ls ≡ 0
+none_told ls e = go (eqb (bad_line 2 ls) 0) refl
+  where
+    go : (t : Bool) → eqb (bad_line 2 ls) 0 ≡ t → bad_line 2 ls ≡ 0
+    go true k = eqb-true (bad_line 2 ls) 0 k
+    go false k = absurd (none-some (bad_line 2 ls) (rw k at e))
+
+abbrev pub no_run? : List ℕ → Bool
+no_run? l = not (run? l)
+
+bad_from : (k : ℕ) (ls : List (List ℕ)) → option_map (λ (k : ℕ). k + 2) (position_from no_run? k ls) ≡ pick (eqb (bad_line (k + 2) ls) 0) None (Some (bad_line (k + 2) ls))
+unfolding bad_line
+bad_from k [] = refl
+bad_from k (l ∷ ls) = let e : k + 1 + 2 ≡ k + 2 + 1 = omega arith in go (run? l) (rw e at (bad_from (k + 1) ls))
+  where
+    go : (t : Bool) → option_map (λ (k : ℕ). k + 2) (position_from no_run? (k + 1) ls) ≡ pick (eqb (bad_line (k + 2 + 1) ls) 0) None (Some (bad_line (k + 2 + 1) ls))
+        → (let n = pick t (bad_line (k + 2 + 1) ls) (k + 2) in
+        option_map (λ (k : ℕ). k + 2) (cond (not t) (Some k) (position_from no_run? (k + 1) ls)) ≡ pick (eqb n 0) None (Some n))
+    go true h = h
+    go false h = rw (ne_eqb (k + 2) 0 (omega arith))
+
+-- how many lines are before the first that is no run
+pub bad_position : (ls : List (List ℕ)) (r : Option ℕ) → r ≡ cond (ltb (position_or_len no_run? ls) (length ls)) (Some (position_or_len no_run? ls)) None → option_map (λ (k : ℕ). k + 2) r ≡ bad_run ls
+bad_position ls r e = ap (option_map (λ (k : ℕ). k + 2)) (e ∙ position_from-zero no_run? ls) ∙ bad_from 0 ls

@@ -1,41 +1,44 @@
 -- Laws of the lines of the table.
 --     run_line_few, runs_few                      the most bytes that the line of a run, and those of the runs on a text's lines, have
---     fine_here, fine_next                        where each line from a place on is fine, so is the one there, and each behind it
---     Listing                                     the walk over the lines from a place on
+--     fine_first, fine_rest                       where each line is fine, so is the first, and each behind it
+--     accepted_few, accepted_fine, accepted_printable
+--                                                 there are 256 lines at most, and each is fine; each number of their lot can be printed
+--     Listing                                     the walk over the lines, where some are left to write
 --     listing_begin, listing_room, listing_more, listing_end
 --                                                 before the first; there is room for a line; behind one line more; behind the last
 -- Assumes nothing.
 use mathlib.Core.Bool.{Bool, true, false}
 use mathlib.Core.List.{List, [], ◌∷◌}
-use mathlib.Core.Path.{◌≡◌, ap}
-use Prim.Native.Nat.{ℕ, suc, ◌+◌, ◌-◌, ◌*◌, ◌≤◌, ◌<◌}
+use mathlib.Core.Path.{◌≡◌, sym, ap, ◌∙◌}
+use Prim.Native.Nat.{ℕ, suc, ◌+◌, ◌*◌, ◌≤◌}
 use native.Mathlib.Omega.{arith}
 use lib.Dec.{eqb}
-use lib.ListN.{length, drop, length-append, length-drop}
+use lib.ListN.{length, length-append, length-map}
 use Rattle.bases.proofs.TestLaws.{neither}
 use Rattle.bases.specs.Pick.{pick}
-use Rattle.bases.specs.Put.{put}
-use Rattle.lines.proofs.WroteLaws.{Wrote, Left, left_begin, left_then, left_end}
+use Rattle.bases.specs.declared.put.Writer.{Writer}
+use Rattle.bases.specs.Wrote.{HasRoom, Wrote}
+use Rattle.bases.proofs.WroteLaws.{wrote_none, wrote_more}
+use Rattle.lot.specs.declared.answer.Lot.{Lot}
 use Rattle.lot.specs.Lot.{lot_of}
-use Rattle.lot.specs.Run.{large?, any_large?}
-use Rattle.vcf.proofs.EntryLaws.{line_length}
+use Rattle.lot.specs.Run.{most_runs, large?, any_large?}
 use Rattle.fields.proofs.FieldLaws.{until_within, field_length}
-use Rattle.vcf.proofs.ListLaws.{lines_at, lines_past}
 use Rattle.fields.specs.Bytes.{LF, TAB}
-use Rattle.vcf.specs.Entry.{line_at, next_line}
 use Rattle.fields.specs.Field.{field_at}
 use Rattle.vcf.specs.List.{onto, lines_of}
-use Rattle.lot_report.specs.Fine.{Fine, AllFine}
+use Rattle.lot_report.specs.Fine.{Fine, AllFine, Accepted}
+use Rattle.lot_report.specs.Printable.{Printable}
 use Rattle.lot_report.specs.Run.{name_of, run_on, runs_on}
 use Rattle.lot_report.specs.Table.{line_most, run_text, runs_text}
-use Rattle.lot_report.proofs.RunLaws.{runs_here, runs_next}
+use Rattle.lot_report.proofs.LotLaws.{answered_few, answered_small, lot_printable}
+use Rattle.lot_report.proofs.RunLaws.{runs_first}
 use Rattle.lot_report.proofs.ShareLaws.{line_few}
 
 pub run_line_few : (l : List ℕ) → length (run_text l) ≤ length l + line_most
 run_line_few l = omega (arith, line_few (name_of l) (lot_of (run_on l ∷ [])), field_length l (field_at 0 l), until_within TAB l (field_at 0 l))
 
 -- How many bytes lines have, without their LFs.
-unfoldable bytes_on : List (List ℕ) → ℕ
+unfoldable pub bytes_on : List (List ℕ) → ℕ
 bytes_on [] = 0
 bytes_on (l ∷ ls) = length l + bytes_on ls
 
@@ -54,62 +57,58 @@ bytes_few (b ∷ bs) = go (eqb b LF) (lines_of bs) (bytes_few bs)
     go false [] h = omega arith
     go false (l ∷ ls) h = omega arith
 
-pub runs_few : (t : List ℕ) (a : ℕ) → length (runs_text (lines_of (drop a t))) ≤ length t - a + line_most * length (lines_of (drop a t))
-runs_few t a = omega (arith, lines_runs_few (lines_of (drop a t)), bytes_few (drop a t), length-drop a t)
+pub runs_few : (t : List ℕ) → length (runs_text (lines_of t)) ≤ length t + line_most * length (lines_of t)
+runs_few t = omega (arith, lines_runs_few (lines_of t), bytes_few t)
 
-module _ (t : List ℕ) (a : ℕ) (h : a < length t) (f : AllFine (lines_of (drop a t))) where
-  small : (large? (run_on (line_at t a)) ≡ false) × (any_large? (runs_on (lines_of (drop (next_line t a) t))) ≡ false)
+module _ (l : List ℕ) (ls : List (List ℕ)) (f : AllFine (l ∷ ls)) where
+  small : (large? (run_on l) ≡ false) × (any_large? (runs_on ls) ≡ false)
   unfolding any_large?
-  small = neither (large? (run_on (line_at t a))) (any_large? (runs_on (lines_of (drop (next_line t a) t)))) (rw (lines_at t a h) at f.small)
+  small = neither (large? (run_on l)) (any_large? (runs_on ls)) f.small
 
-  pub fine_here : Fine (line_at t a)
-  fine_here = record { run = runs_here t a h f.runs; small = small.0 }
+  pub fine_first : Fine l
+  fine_first = record { run = (runs_first l ls f.runs).0; small = small.0 }
 
-  pub fine_next : AllFine (lines_of (drop (next_line t a) t))
-  fine_next = record { runs = runs_next t a h f.runs; small = small.1 }
+  pub fine_rest : AllFine ls
+  fine_rest = record { runs = (runs_first l ls f.runs).1; small = small.1 }
 
-module _ (t : List ℕ) (from : ℕ) (out₀ : List ℕ) (at₀ : ℕ) where
-  -- All lines that are to be written.
-  abbrev all : List ℕ
-  all = runs_text (lines_of (drop from t))
+-- Of lines whose lot is answered: there are 256 at most, and each is fine; each number of the lot can be printed.
+module _ (t : List ℕ) (l : Lot) (h : Accepted t l) where
+  answered : (lot_of (runs_on (lines_of t))).number ≡ 0
+  answered = ap (λ (l : Lot). l.number) (sym h.lot) ∙ h.answered
 
-  pub record Listing (place : ℕ) (out : List ℕ) (next : ℕ) : Type 0 where
-    pub inside : place ≤ length t + 1
-    pub fine : AllFine (lines_of (drop place t))
-    pub room : next + (length t - place + line_most * length (lines_of (drop place t))) ≤ length out₀
-    pub left : Left (put out₀ at₀ all) (at₀ + length all) (length out₀) out next (runs_text (lines_of (drop place t)))
+  pub accepted_few : length (lines_of t) ≤ most_runs
+  accepted_few = omega (arith, answered_few (runs_on (lines_of t)) answered, length-map (lines_of t) run_on)
 
-  pub listing_begin : AllFine (lines_of (drop from t)) → from ≤ length t + 1 → at₀ + (length t - from + line_most * length (lines_of (drop from t))) ≤ length out₀ → Listing from out₀ at₀
-  listing_begin f h m = record { inside = omega arith; fine = f; room = m; left = left_begin out₀ at₀ all }
+  pub accepted_fine : AllFine (lines_of t)
+  accepted_fine = record { runs = h.runs; small = answered_small (runs_on (lines_of t)) answered }
 
-  module _ (place : ℕ) (out : List ℕ) (next : ℕ) (w : Listing place out next) where
-    pub listing_end : length t ≤ place → (next ≡ at₀ + length all) × (out ≡ put out₀ at₀ all)
+  pub accepted_printable : Printable l
+  accepted_printable = rw h.lot (lot_printable (runs_on (lines_of t)) answered)
+
+-- Text s is to be written behind `old`, and what is left of it are the lines of the runs on these lines, behind `out`.
+pub record Listing (old : Writer) (s : List ℕ) (ls : List (List ℕ)) (out : Writer) : Type 0 where
+  pub fine : AllFine ls
+  pub room : HasRoom out (bytes_on ls + line_most * length ls)
+  pub left : (m : Writer) → Wrote out (runs_text ls) m → Wrote old s m
+
+module _ (old : Writer) where
+  pub listing_begin : (t : List ℕ) → AllFine (lines_of t) → HasRoom old (length t + line_most * length (lines_of t)) → Listing old (runs_text (lines_of t)) (lines_of t) old
+  listing_begin t f m = record { fine = f; room = omega (arith, m, bytes_few t); left = λ m w. w }
+
+  module _ (s : List ℕ) (out : Writer) where
+    pub listing_end : Listing old s [] out → Wrote old s out
     unfolding runs_text
-    listing_end l = left_end (put out₀ at₀ all) (at₀ + length all) (length out₀) out next (rw (lines_past t place l) at w.left)
+    listing_end w = w.left out (wrote_none out)
 
-    module _ (less : place < length t) where
-      -- The line there, and those behind it.
-      abbrev line : List ℕ
-      line = line_at t place
+    module _ (l : List ℕ) (ls : List (List ℕ)) (w : Listing old s (l ∷ ls) out) where
+      pub listing_room : HasRoom out (length l + line_most)
+      unfolding bytes_on
+      listing_room = omega (arith, w.room)
 
-      abbrev later : List (List ℕ)
-      later = lines_of (drop (next_line t place) t)
-
-      count : length (lines_of (drop place t)) ≡ suc (length later)
-      count = ap (λ (ls : List (List ℕ)). length ls) (lines_at t place less)
-
-      pub listing_room : next + (length (line_at t place) + line_most) ≤ length out₀
-      listing_room = omega (arith, w.room, count, line_length t place, until_within LF t place)
-
-      pub listing_more : (r : ℕ) (e : List ℕ) → Wrote out next (run_text (line_at t place)) r e → Listing (next_line t place) e r
-      unfolding runs_text
-      listing_more r e v =
-          let few = run_line_few line in
-          record {
-            inside = omega (arith, until_within LF t place);
-            fine = fine_next t place less w.fine;
-            room = omega (arith, w.room, count, line_length t place, until_within LF t place, few, v.0);
-            left =
-                left_then (put out₀ at₀ all) (at₀ + length all) (length out₀) out next (run_text line) (runs_text later) r e
-                (rw (lines_at t place less) at w.left) (omega (arith, few, listing_room)) v;
-          }
+      pub listing_more : (new : Writer) → Wrote out (run_text l) new → Listing old s ls new
+      unfolding runs_text bytes_on
+      listing_more new v = record {
+        fine = fine_rest l ls w.fine;
+        room = omega (arith, w.room, run_line_few l, v.at, v.long);
+        left = λ m u. w.left m (wrote_more (omega (arith, w.room)) v u);
+      }

@@ -1,6 +1,6 @@
 -- What writing the table leans on.
 -- Assumes nothing: these are definitions.
-use Rattle.std.specs.Prelude.{false, List, ◌≡◌, ℕ, ◌+◌, ◌≤◌, T, length, drop}
+use Rattle.std.specs.Prelude.{false, List, ◌≡◌, ℕ, ◌≤◌, T, length}
 use Rattle.lot.specs.declared.answer.Lot.{Lot}
 use Rattle.lot.specs.Lot.{lot_of}
 use Rattle.lot.specs.Run.{large?, any_large?}
@@ -17,10 +17,9 @@ pub record AllFine (ls : List (List ℕ)) : Type 0 where
   pub runs : T (all_runs? ls)
   pub small : any_large? (runs_on ls) ≡ false
 
--- Each line of the text from a place on is a run, and this is their lot, which is not refused.
-pub record Accepted (t : List ℕ) (from : ℕ) (l : Lot) : Type 0 where
-  pub inside : from ≤ length t + 1
+-- Each line of the text is a run, and this is their lot, which is not refused.
+pub record Accepted (t : List ℕ) (l : Lot) : Type 0 where
   pub short : length t ≤ longest_text
-  pub runs : T (all_runs? (lines_of (drop from t)))
-  pub lot : l ≡ lot_of (runs_on (lines_of (drop from t)))
+  pub runs : T (all_runs? (lines_of t))
+  pub lot : l ≡ lot_of (runs_on (lines_of t))
   pub answered : l.number ≡ 0

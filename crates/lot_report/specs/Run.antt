@@ -2,6 +2,7 @@
 -- TAB-separated.
 -- Assumes nothing: these are definitions.
 use Rattle.std.specs.Prelude.{Bool, true, ◌&&◌, List, [], ◌∷◌, map, ℕ, zero, suc, ◌+◌, eqb, ltb, length, drop, replicate}
+use Rattle.std.proofs.Common.{Option, None, Some}
 use Rattle.bases.specs.Pick.{pick}
 use Rattle.bases.specs.Same.{same?}
 use Rattle.lot.specs.declared.run.Run.{Run}
@@ -60,6 +61,10 @@ run_lines t = lines_of (drop (next_line t 0) t)
 unfoldable pub bad_line : ℕ → List (List ℕ) → ℕ
 bad_line n [] = 0
 bad_line n (l ∷ ls) = let more = bad_line (n + 1) ls in pick (run? l) more n
+
+-- That of the lines behind line 1, or none.
+abbrev pub bad_run : List (List ℕ) → Option ℕ
+bad_run ls = let n = bad_line 2 ls in pick (eqb n 0) None (Some n)
 
 -- Each line is a run.
 unfoldable pub all_runs? : List (List ℕ) → Bool

@@ -9,13 +9,19 @@ mod runs;
 mod share;
 mod table;
 
-use files::file::{FILE_ROOM, print, read_file};
+use bases::put::Writer;
+use files::file::{FILE_ROOM, read_file};
 use std::io;
 
 fn main(rt: HostRuntime) -> io::Result<()> {
     let mut text = [0u8; FILE_ROOM];
-    let mut out = [0u8; table::TABLE_MOST];
+    let mut room = [0u8; table::TABLE_MOST];
     let n = read_file(&rt, b"runs.tsv", &mut text);
-    let end = report::report_text(&text[..n], &mut out);
-    print(&rt, &out, end)
+    let mut out = Writer {
+        room: &mut room,
+        at: 0,
+    };
+    report::report_text(&text[..n], &mut out);
+    let end = out.at;
+    rt.write_all(&room[..end])
 }

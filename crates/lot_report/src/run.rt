@@ -1,15 +1,16 @@
 // The lines of runs.tsv, read.
-ghost use Rattle.std.specs.Prelude.{◌≡◌, ◌+◌, ◌≤◌, T, length, drop};
+ghost use Rattle.std.specs.Prelude.{◌≡◌, ◌≤◌, T};
 ghost use Rattle.fields.specs.Field.{field};
 ghost use Rattle.vcf.specs.List.{lines_of};
 ghost use Rattle.lot_report.specs.Count.{count_of};
-ghost use Rattle.lot_report.specs.Run.{headed?, counts_of_run, run?, run_on, bad_line};
+ghost use Rattle.lot_report.specs.Run.{headed?, counts_of_run, run?, run_on, bad_run};
 
 use crate::count::{is_count, read_count};
 use bases::bytes::same_bytes;
 use fields::bytes::{LF, TAB, find};
 use fields::field::{field_from, skip_fields};
 use lot::run::Run;
+use vcf::lines::lines_of;
 
 // How many counts a run has.
 const COUNTS_OF_RUN: usize = 6;
@@ -34,16 +35,11 @@ pub fn is_run(line: &[u8]) -> bool
         return false;
     }
     let mut at = name + 1;
-    let mut left = COUNTS_OF_RUN;
-    while 0 < left {
-        if line.len() < at {
-            return false;
-        }
-        if !is_count(field_from(line, at)) {
+    for _ in 0..COUNTS_OF_RUN {
+        if line.len() < at || !is_count(field_from(line, at)) {
             return false;
         }
         at = skip_fields(line, at, 1);
-        left -= 1;
     }
     at == line.len() + 1
 }
@@ -74,20 +70,10 @@ pub fn run_on(line: &[u8]) -> Run
     }
 }
 
-// The number of the first line that is no run, from line 2 on, which begins at `from`; 0 where each is one.
-pub fn bad_line(text: &[u8], from: usize) -> usize
-    requires { from ≤ length text.now + 1 }
-    ensures { result ≡ bad_line 2 (lines_of (drop from text.now)) }
+// The number of the first line that is no run, where the first of the lines is line 2; none where each is one.
+pub fn bad_line(text: &[u8]) -> Option<usize>
+    ensures { result ≡ bad_run (lines_of text.now) }
 {
-    let mut at = from;
-    let mut n: usize = 2;
-    while at < text.len() {
-        let end = find(text, at, LF);
-        if !is_run(&text[at..end]) {
-            return n;
-        }
-        at = end + 1;
-        n += 1;
-    }
-    0
+    let k = lines_of(text).position(|line| !is_run(line))?;
+    Some(k + 2)
 }

@@ -1,7 +1,6 @@
-// The table that is printed, written into lent room. Each function says where what it wrote ends, and leaves every other byte of the room
-// as it was.
-ghost use Rattle.std.specs.Prelude.{◌≡◌, ◌+◌, ◌-◌, ◌*◌, ◌≤◌, length, drop};
-ghost use Rattle.bases.specs.Put.{put};
+// The table that is printed, written line by line.
+ghost use Rattle.std.specs.Prelude.{◌+◌, ◌*◌, length};
+ghost use Rattle.bases.specs.Wrote.{HasRoom, Wrote};
 ghost use Rattle.vcf.specs.List.{lines_of};
 ghost use Rattle.lot_report.specs.Printable.{Printable};
 ghost use Rattle.lot_report.specs.Fine.{Fine, AllFine, Accepted};
@@ -9,12 +8,13 @@ ghost use Rattle.lot_report.specs.Table.{line_text, line_most, run_text, runs_te
 
 use crate::run::run_on;
 use crate::share::put_share;
-use bases::put::{put_byte, put_bytes};
-use fields::bytes::{LF, TAB, find};
+use bases::put::Writer;
+use fields::bytes::{LF, TAB};
 use fields::field::field_from;
 use lines::field::put_fields;
 use lot::answer::{Lot, MOST_RUNS};
 use lot::lot::lot_of_first;
+use vcf::lines::lines_of;
 use vcf::list::LONGEST_TEXT;
 
 // The most bytes of a line without its name.
@@ -24,80 +24,62 @@ const LINE_MOST: usize = 123;
 pub const TABLE_MOST: usize = 154 + (LONGEST_TEXT + LINE_MOST * MOST_RUNS) + (3 + LINE_MOST);
 
 // Writes the line of a name and a lot.
-fn put_line(name: &[u8], lot: Lot, out: &mut [u8], at: usize) -> usize
+fn put_line(name: &[u8], lot: Lot, out: &mut Writer)
     requires { Printable lot
-        × (at + (length name.now + line_most) ≤ length out.old) }
-    ensures { (result ≡ at + length (line_text name.now lot))
-        × (out.new ≡ put out.old at (line_text name.now lot)) }
+        × HasRoom out.old (length name.now + line_most) }
+    ensures { Wrote out.old (line_text name.now lot) out.new }
 {
-    let total = lot.total;
-    let a = put_bytes(name, out, at);
-    let b = put_byte(TAB, out, a);
-    let c = put_fields(
+    out.bytes(name);
+    out.byte(TAB);
+    put_fields(
         lot.truth as usize,
-        total.matched1 as usize,
-        total.undecided1 as usize,
+        lot.total.matched1 as usize,
+        lot.total.undecided1 as usize,
         TAB,
         out,
-        b,
     );
-    let d = put_fields(
+    put_fields(
         lot.called as usize,
-        total.matched2 as usize,
-        total.undecided2 as usize,
+        lot.total.matched2 as usize,
+        lot.total.undecided2 as usize,
         TAB,
         out,
-        c,
     );
-    let recall = lot.recall;
-    let e = put_share(recall, TAB, out, d);
-    let precision = lot.precision;
-    put_share(precision, LF, out, e)
+    put_share(lot.recall, TAB, out);
+    put_share(lot.precision, LF, out);
 }
 
 // Writes the line of a run: that of a lot of this run alone.
-fn put_run(line: &[u8], out: &mut [u8], at: usize) -> usize
+fn put_run(line: &[u8], out: &mut Writer)
     requires { Fine line.now
-        × (at + (length line.now + line_most) ≤ length out.old) }
-    ensures { (result ≡ at + length (run_text line.now))
-        × (out.new ≡ put out.old at (run_text line.now)) }
+        × HasRoom out.old (length line.now + line_most) }
+    ensures { Wrote out.old (run_text line.now) out.new }
 {
-    let run = run_on(line);
-    let lot = lot_of_first([run; MOST_RUNS], 1);
-    put_line(field_from(line, 0), lot, out, at)
+    let lot = lot_of_first([run_on(line); MOST_RUNS], 1);
+    put_line(field_from(line, 0), lot, out);
 }
 
-// Writes the lines of the runs on the lines from `from` on.
-fn put_runs(text: &[u8], from: usize, out: &mut [u8], at: usize) -> usize
-    requires { AllFine (lines_of (drop from text.now))
-        × (from ≤ length text.now + 1)
-        × (at + (length text.now - from + line_most * length (lines_of (drop from text.now))) ≤ length out.old) }
-    ensures { (result ≡ at + length (runs_text (lines_of (drop from text.now))))
-        × (out.new ≡ put out.old at (runs_text (lines_of (drop from text.now)))) }
+// Writes the lines of the runs on these lines.
+fn put_runs(text: &[u8], out: &mut Writer)
+    requires { AllFine (lines_of text.now)
+        × HasRoom out.old (length text.now + line_most * length (lines_of text.now)) }
+    ensures { Wrote out.old (runs_text (lines_of text.now)) out.new }
 {
-    let mut place = from;
-    let mut next = at;
-    while place < text.len() {
-        let end = find(text, place, LF);
-        next = put_run(&text[place..end], out, next);
-        place = end + 1;
+    for line in lines_of(text) {
+        put_run(line, out);
     }
-    next
 }
 
-// Writes the table at the start of the room, for the lot of the runs on the lines from `from` on.
-pub fn put_table(text: &[u8], from: usize, lot: Lot, out: &mut [u8]) -> usize
-    requires { Accepted text.now from lot
-        × (table_most ≤ length out.old) }
-    ensures { (result ≡ length (table_text (lines_of (drop from text.now))))
-        × (out.new ≡ put out.old 0 (table_text (lines_of (drop from text.now)))) }
+// Writes the table for the lot of the runs on these lines.
+pub fn put_table(text: &[u8], lot: Lot, out: &mut Writer)
+    requires { Accepted text.now lot
+        × HasRoom out.old table_most }
+    ensures { Wrote out.old (table_text (lines_of text.now)) out.new }
 {
-    let first = put_bytes(
+    out.bytes(
         b"run\ttruth\ttruth_matched\ttruth_undecided\tcalled\tcalled_matched\tcalled_undecided\t\
           recall\trecall_ppm\trecall_percent\tprecision\tprecision_ppm\tprecision_percent\n",
-        out,
-        0,
     );
-    let last = put_runs(text, from, out, first);
-    put_line(b"lot", lot, out, last)
+    put_runs(text, out);
+    put_line(b"lot", lot, out);
 }

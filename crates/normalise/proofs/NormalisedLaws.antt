@@ -3,27 +3,38 @@
 --     answer_printable, text_refused          else, where the call `normal` is refused: its four numbers can be printed, and they are what is
 --                                             printed
 --     text_given                              else what it wrote is
+--     rest, rest_length                       the rest of a writer's room, which the call is lent
+--     rest_same, rest_written                 the whole room, where the call left the rest as it was; where it wrote
+--     wrote_same                              written from an equal writer on
 -- Assumes nothing.
 use mathlib.Core.Bool.{Bool, true, false}
-use mathlib.Core.List.{List}
+use mathlib.Core.List.{List, [], ◌++◌, append_assoc, append-nil}
 use mathlib.Core.Logic.{◌≢◌}
 use mathlib.Core.Path.{◌≡◌, refl, sym, ap, ◌∙◌}
-use Prim.Native.Nat.{ℕ, ◌≤◌}
+use Prim.Native.Nat.{ℕ, ◌+◌, ◌-◌, ◌≤◌}
+use native.Mathlib.Omega.{arith}
+use borrow.Rule.Slice.PartMut.{put_mid}
 use borrow.Author.Tests.{eqb-true, le-ltb}
 use lib.Dec.{eqb}
-use lib.ListN.{length}
+use lib.ListN.{length, take, drop, length-drop, drop_of_length-le}
+use lib.Seq.{drop-drop}
 use Rattle.bases.specs.Letter.{bases_of}
 use Rattle.bases.specs.Pick.{pick}
+use Rattle.bases.specs.declared.put.Writer.{Writer}
 use Rattle.bases.specs.Put.{put}
+use Rattle.bases.specs.Wrote.{Wrote}
+use Rattle.bases.proofs.PartLaws.{tail_part}
+use Rattle.bases.proofs.PutLaws.{put_none}
 use Rattle.card.specs.declared.answer.Answer.{Answer}
 use Rattle.card.specs.declared.refusal.Refusal.{Refusal}
 use Rattle.card.specs.Answer.{answer, refused_answer, answer_of}
 use Rattle.card.specs.Normal.{normal_refusal, written, normal_after}
-use Rattle.card.specs.Refusal.{list_checks}
+use Rattle.card.specs.Refusal.{refusal, list_checks}
 use Rattle.card.proofs.NormalLaws.{normal_refused, normal_given}
 use Rattle.files.specs.File.{ends_in_lf?, reference_in}
-use Rattle.lines.specs.Lines.{largest_number, refused_text}
+use Rattle.lines.specs.Lines.{refused_text}
 use Rattle.written.specs.Written.{written_text}
+use Rattle.told.specs.Told.{Printable}
 use Rattle.told.proofs.PrintableLaws.{list_printable}
 use Rattle.told.proofs.ToldLaws.{file_open, file_past, told_text_lem, Numbers, numbers_printable, numbers_refused, answer_numbers}
 use Rattle.normalise.specs.Normalised.{list_refusal, normalised_text}
@@ -62,7 +73,7 @@ module _ (file name text out : List ℕ) (ends : ends_in_lf? file ≡ true) (roo
     tells : Numbers a.number a.list a.line a.place (list_refusal file name text)
     tells = answer_numbers a (list_refusal file name text) (answered ∙ refused.0 ∙ ap refused_answer same)
 
-    pub answer_printable : (a.number ≤ largest_number) × (a.list ≤ largest_number) × (a.line ≤ largest_number) × (a.place ≤ largest_number)
+    pub answer_printable : Printable (refusal a.number a.list a.line a.place)
     answer_printable = numbers_printable a.number a.list a.line a.place (list_refusal file name text) tells (list_printable file reference name text false)
 
     pub text_refused : (normalised_text file name text ≡ refused_text a.number a.list a.line a.place) × (normal_after (reference_in file) name text out ≡ out)
@@ -77,3 +88,27 @@ module _ (file name text out : List ℕ) (ends : ends_in_lf? file ≡ true) (roo
       let given = normal_given reference name text out zero in
       let told = told_text_lem (list_refusal file name text) (written_text (bases_of reference) text) (sym (ap (λ (x : Refusal). x.number) same) ∙ zero) in
       (ap (λ (x : Answer). x.value) (answered ∙ given.0) ∙ ap length (sym told), given.1 ∙ ap (put out 0) (sym told))
+
+module _ (d : List ℕ) (at : ℕ) where
+  abbrev pub rest : List ℕ
+  rest = take (length d - at) (drop at d)
+
+  pub rest_length : length rest ≡ length d - at
+  rest_length = ap length (tail_part d at) ∙ length-drop at d
+
+  none : drop (length d - at) (drop at d) ≡ []
+  none = drop_of_length-le (drop at d) {i = length d - at} (omega (arith, length-drop at d))
+
+  pub rest_written : (s e : List ℕ) → e ≡ put rest 0 s → put_mid at (length d - at) d e ≡ put d at s
+  rest_written s e h =
+      let n : at + (0 + length s) ≡ at + length s = omega arith in
+      let is : e ≡ s ++ drop (at + length s) d =
+      h ∙ ap (λ (z : List ℕ). put z 0 s) (tail_part d at) ∙ ap (λ (z : List ℕ). s ++ z) (drop-drop (0 + length s) at d ∙ ap (λ (k : ℕ). drop k d) n) in
+      rw (none, append-nil e, is) (sym (append_assoc (take at d) s (drop (at + length s) d)))
+
+  pub rest_same : (e : List ℕ) → e ≡ rest → put_mid at (length d - at) d e ≡ d
+  rest_same e h = rest_written [] e (h ∙ sym (put_none rest 0)) ∙ put_none d at
+
+pub wrote_same : {o p n : Writer} {s : List ℕ} → p.at ≡ o.at → p.room.now ≡ o.room.now → p.room.ghost_name ≡ o.room.ghost_name → Wrote p s n → Wrote o s n
+wrote_same {o} {p} {n} {s} a r g w =
+    record { at = omega (arith, w.at, a); room = rw (← a, ← r) w.room; long = w.long ∙ ap length r; same = w.same ∙ g }

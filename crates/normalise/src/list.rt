@@ -1,56 +1,53 @@
 // What normalise prints for the name and the bytes of its two files.
-ghost use Rattle.std.specs.Prelude.{◌≡◌, ◌≤◌, length};
-ghost use Rattle.bases.specs.Put.{put};
+ghost use Rattle.std.specs.Prelude.{length};
+ghost use Rattle.bases.specs.Wrote.{HasRoom, Wrote};
 ghost use Rattle.files.specs.Given.{file_room, Laid};
 ghost use Rattle.lines.specs.Lines.{refused_most};
 ghost use Rattle.normalise.specs.Normalised.{normalised_text, normalised_in};
 
+use bases::put::Writer;
 use card::normal_text::normal;
+use card::refusal::Refusal;
 use files::file::ends_in_lf;
 use files::given::Given;
-use lines::refused::refused_text;
+use told::refused::{OPEN_FILE, put_refused};
 
-// Writes what is printed for a reference file, a name and a list at the start of the room, and says how many bytes that is. The room is not
-// below the list's length.
-fn normalise_text(file: &[u8], name: &[u8], text: &[u8], out: &mut [u8]) -> usize
-    requires { (length text.now ≤ length out.old)
-        × (refused_most ≤ length out.old) }
-    ensures { let printed = normalised_text file.now name.now text.now in (result ≡ length printed)
-        × (out.new ≡ put out.old 0 printed)
-        × (result ≤ length out.new) }
+// Writes what is printed for a reference file, a name and a list. The room that is left is not below the list's length.
+fn normalise_text(file: &[u8], name: &[u8], text: &[u8], out: &mut Writer)
+    requires { HasRoom out.old (length text.now)
+        × HasRoom out.old refused_most }
+    ensures { Wrote out.old (normalised_text file.now name.now text.now) out.new }
 {
     if !ends_in_lf(file) {
-        return refused_text(1, 0, 0, 0, out);
+        put_refused(OPEN_FILE, out);
+        return;
     }
     let n = file.len() - 1;
-    let answer = normal(&file[..n], name, text, out);
+    let answer = normal(&file[..n], name, text, &mut out.room[out.at..]);
+    // By its number, since what card answers has the layout of the C interface.
     if answer.number != 0 {
-        return refused_text(
-            answer.number as usize,
-            answer.list as usize,
-            answer.line as usize,
-            answer.place as usize,
-            out,
-        );
+        let refusal = Refusal {
+            number: answer.number,
+            list: answer.list,
+            line: answer.line,
+            place: answer.place,
+        };
+        put_refused(refusal, out);
+        return;
     }
-    answer.value as usize
+    out.at += answer.value as usize;
 }
 
 // The same for what the program is given.
-pub fn normalise_given(room: &[u8], given: Given, out: &mut [u8]) -> usize
+pub fn normalise_given(room: &[u8], given: Given, out: &mut Writer)
     requires { Laid given (length room.now)
-        × (file_room ≤ length out.old) }
-    ensures { (result ≡ length (normalised_in room.now given))
-        × (out.new ≡ put out.old 0 (normalised_in room.now given))
-        × (result ≤ length out.new) }
+        × HasRoom out.old file_room }
+    ensures { Wrote out.old (normalised_in room.now given) out.new }
 {
-    let name = given.name;
-    let reference = given.reference;
-    let first = given.first;
     normalise_text(
-        &room[name..reference],
-        &room[0..name],
-        &room[reference..first],
+        given.reference(room),
+        given.name(room),
+        given.first(room),
         out,
-    )
+    );
 }

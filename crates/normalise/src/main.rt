@@ -4,14 +4,20 @@
 
 mod list;
 
-use files::file::{FILE_ROOM, print};
+use bases::put::Writer;
+use files::file::FILE_ROOM;
 use files::given::{LIST_ROOM, read_list};
 use std::io;
 
 fn main(rt: HostRuntime) -> io::Result<()> {
     let mut room = [0u8; LIST_ROOM];
-    let mut out = [0u8; FILE_ROOM];
     let given = read_list(&rt, &mut room);
-    let end = list::normalise_given(&room, given, &mut out);
-    print(&rt, &out, end)
+    let mut text = [0u8; FILE_ROOM];
+    let mut out = Writer {
+        room: &mut text,
+        at: 0,
+    };
+    list::normalise_given(&room, given, &mut out);
+    let end = out.at;
+    rt.write_all(&text[..end])
 }

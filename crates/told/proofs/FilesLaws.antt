@@ -1,21 +1,26 @@
 -- What marking a run's files answers and leaves.
 --     open_files, closed_files          by whether the reference file ends in LF
 --     Tells, files_tell                 the answer's four numbers are the refusal's
---     files_printable                   they can be printed
 --     accepted_files, files_answerable  where they are zeros, both lists are accepted, and walks over them can begin
 --     files_clusters, files_score, files_plan_lem, files_marks_lem
 --                                       and the answer, the plan and the marks are those of the lists
 --     files_marked                      each entry has a mark
+--     told_err, told_ok                 what `mark_files` tells, read back: the refusal, which can be printed and is what is told; or that nothing is
+--                                       turned away
+--     told_clusters, told_score, told_plan
+--                                       and then the number of clusters, the score and the plan are those of the lists
 -- Assumes nothing.
 use mathlib.Core.Bool.{Bool, true, false}
 use mathlib.Core.List.{List, ◌++◌}
-use mathlib.Core.Path.{◌≡◌, refl, sym, ap, ◌∙◌}
+use mathlib.Core.Logic.{◌≢◌}
+use mathlib.Core.Path.{◌≡◌, refl, sym, ap, subst, ◌∙◌}
 use Prim.Native.Nat.{ℕ, ◌+◌, ◌≤◌}
 use native.Mathlib.Omega.{arith}
-use borrow.Author.Tests.{eq-eqb}
+use borrow.Author.Tests.{eq-eqb, eqb-true, eqb-false}
 use lib.Dec.{eqb}
 use lib.ListN.{length, take, drop, length-append, length-replicate}
 use lib.Seq.{take-append_seam}
+use Rattle.std.specs.Prelude.{Result, Ok, Err, MatchResult}
 use Rattle.bases.specs.Letter.{bases_of}
 use Rattle.bases.specs.Pick.{pick}
 use Rattle.bases.specs.Put.{put}
@@ -24,7 +29,7 @@ use Rattle.card.specs.declared.answer.Answer.{Answer}
 use Rattle.card.specs.declared.refusal.Refusal.{Refusal}
 use Rattle.card.specs.All.{all_marked, all_refusal, all_answered, empty_plan, all_plan, all_bytes}
 use Rattle.card.specs.Answer.{answer, refused_answer}
-use Rattle.card.specs.Refusal.{first_refusal, least_room, lists_checks}
+use Rattle.card.specs.Refusal.{refusal, first_refusal, least_room, lists_checks}
 use Rattle.card.proofs.ClusterMarks.{marks_all}
 use Rattle.card.proofs.ListsLaws.{lists_read}
 use Rattle.card.proofs.ReadyLaws.{Answerable, lists_answerable}
@@ -33,11 +38,13 @@ use Rattle.marks.specs.Marks.{clusters_of, all_marks, total_score}
 use Rattle.clusters.specs.Merged.{merged_items}
 use Rattle.clusters.specs.Plan.{plan_of}
 use Rattle.files.specs.File.{ends_in_lf?, reference_in}
-use Rattle.lines.specs.Lines.{largest_number}
+use Rattle.lines.specs.Lines.{refused_text}
 use Rattle.vcf.specs.List.{judge_text}
-use Rattle.told.specs.Files.{refusal_of, files_answered, files_plan, files_marks}
+use Rattle.told.specs.declared.marked.Marked.{Marked}
+use Rattle.told.specs.Files.{refusal_of, files_answered, files_plan, files_told, files_marks}
+use Rattle.told.specs.Told.{told_text, Printable}
 use Rattle.told.proofs.PrintableLaws.{lists_printable}
-use Rattle.told.proofs.ToldLaws.{file_open, file_past, file_ends, Numbers, numbers_printable, answer_numbers}
+use Rattle.told.proofs.ToldLaws.{file_open, file_past, file_ends, told_refused, Numbers, answer_numbers}
 
 empty_long : length empty_plan ≡ least_room
 empty_long = length-replicate {A = Cluster} least_room (record { first = 0; count = 0 })
@@ -99,9 +106,6 @@ module _ (file name first second before : List ℕ) (long : length before ≡ le
           let q = file_open file (lists_checks r name first second false) e in
           rw ((open_files file name first second before e).0, q) (record { same_number = refl; same_list = refl; same_line = refl; same_place = refl })
 
-  pub files_printable : (a : AllMarked) → Tells a (refusal_of file name first second) → (a.number ≤ largest_number) × (a.list ≤ largest_number) × (a.line ≤ largest_number) × (a.place ≤ largest_number)
-  files_printable a t = numbers_printable a.number a.list a.line a.place (refusal_of file name first second) t (lists_printable file r name first false second)
-
   module _ (z : (refusal_of file name first second).number ≡ 0) where
     ends : ends_in_lf? file ≡ true
     ends = file_ends file (lists_checks r name first second false) z
@@ -135,3 +139,58 @@ module _ (file name first second before : List ℕ) (long : length before ≡ le
           length-append own (drop (0 + length own) before),
           marks_all (bases_of r) name first second accepted.0 accepted.1,
         )
+
+  -- what is answered and planned, as a Result
+  abbrev answered : AllMarked
+  answered = files_answered file name first second before
+
+  abbrev marked : Marked
+  marked = record { clusters = answered.clusters; score = answered.score; plan = files_plan file name first second before }
+
+  abbrev turned_away : Refusal
+  turned_away = refusal answered.number answered.list answered.line answered.place
+
+  away_same : turned_away ≡ refusal_of file name first second
+  away_same = let t = files_tell in λ i. record { number = t.same_number i; list = t.same_list i; line = t.same_line i; place = t.same_place i }
+
+  is_err : (q : Refusal) → Err q ≡ files_told file name first second before → (q ≡ turned_away) × (answered.number ≢ 0)
+  is_err q = go (eqb answered.number 0) refl
+    where
+      Same : Result Marked Refusal → Type 0
+      Same r = MatchResult r (λ _. ⊥) (λ d. q ≡ d)
+
+      go : (t : Bool) → eqb answered.number 0 ≡ t → ◌≡◌ {A = Result Marked Refusal} (Err q) (pick t (Ok marked) (Err turned_away)) → (q ≡ turned_away) × (answered.number ≢ 0)
+      go true z h = absurd (subst Same h refl)
+      go false z h = (subst Same h refl, eqb-false answered.number 0 z)
+
+  is_ok : (m : Marked) → Ok m ≡ files_told file name first second before → (answered.number ≡ 0) × (m ≡ marked)
+  is_ok m = go (eqb answered.number 0) refl
+    where
+      Same : Result Marked Refusal → Type 0
+      Same r = MatchResult r (λ d. m ≡ d) (λ _. ⊥)
+
+      go : (t : Bool) → eqb answered.number 0 ≡ t → ◌≡◌ {A = Result Marked Refusal} (Ok m) (pick t (Ok marked) (Err turned_away)) → (answered.number ≡ 0) × (m ≡ marked)
+      go true z h = (eqb-true answered.number 0 z, subst Same h refl)
+      go false z h = absurd (subst Same h refl)
+
+  pub told_err : (q : Refusal) → Err q ≡ files_told file name first second before
+      → Printable q × ((text : List ℕ) → told_text (refusal_of file name first second) text ≡ refused_text q.number q.list q.line q.place)
+  told_err q e =
+      let r = refusal_of file name first second in
+      let p = is_err q e in
+      let s : q ≡ r = p.0 ∙ away_same in
+      let n : r.number ≢ 0 = λ z. p.1 (ap (λ (x : Refusal). x.number) away_same ∙ z) in
+      (rw s (lists_printable file (reference_in file) name first false second), λ text. rw s (told_refused r text n))
+
+  module _ (m : Marked) (e : Ok m ≡ files_told file name first second before) where
+    pub told_ok : (refusal_of file name first second).number ≡ 0
+    told_ok = sym (ap (λ (x : Refusal). x.number) away_same) ∙ (is_ok m e).0
+
+    pub told_clusters : m.clusters ≡ length (plan_of (bases_of (reference_in file)) first second)
+    told_clusters = ap (λ (x : Marked). x.clusters) (is_ok m e).1 ∙ files_clusters told_ok
+
+    pub told_score : m.score ≡ total_score (bases_of (reference_in file)) (clusters_of (bases_of (reference_in file)) first second)
+    told_score = ap (λ (x : Marked). x.score) (is_ok m e).1 ∙ files_score told_ok
+
+    pub told_plan : take m.clusters m.plan ≡ plan_of (bases_of (reference_in file)) first second
+    told_plan = ap (λ (x : Marked). take x.clusters x.plan) (is_ok m e).1 ∙ files_plan_lem told_ok

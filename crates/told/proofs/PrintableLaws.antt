@@ -1,5 +1,5 @@
 -- What the line of a refusal asks: its four numbers can be printed.
---     Printable, first_printable           the four numbers of a refusal can be printed; those of the first refusal
+--     first_printable                      those of the first refusal
 --     list_printable, lists_printable      those of a reference file and a list, and of a reference file and two
 -- Assumes nothing.
 use mathlib.Core.Bool.{Bool}
@@ -8,20 +8,12 @@ use Prim.Native.Nat.{ℕ, ◌≤◌}
 use native.Mathlib.Omega.{arith}
 use Rattle.bases.specs.Letter.{bases_of}
 use Rattle.bases.proofs.FirstLaws.{AllTold, first_all}
-use Rattle.card.specs.declared.refusal.Refusal.{Refusal}
 use Rattle.card.specs.Refusal.{Check, refusal, no_refusal, first_refusal, list_check, list_checks, lists_checks}
 use Rattle.vcf.specs.List.{judge_text}
 use Rattle.vcf.proofs.GivenLaws.{given_words, judge_given, judge_place_fits}
 use Rattle.vcf.proofs.JudgeLaws.{judge_line_fits}
 use Rattle.lines.specs.Lines.{largest_number}
-use Rattle.told.specs.Told.{file_check}
-
--- Each of the four numbers can be printed.
-pub record Printable (r : Refusal) : Type 0 where
-  pub number : r.number ≤ largest_number
-  pub list : r.list ≤ largest_number
-  pub line : r.line ≤ largest_number
-  pub place : r.place ≤ largest_number
+use Rattle.told.specs.Told.{file_check, Printable}
 
 first_printable : (cs : List Check) → AllTold Printable cs → Printable (first_refusal cs)
 first_printable cs u =

@@ -10,7 +10,7 @@ use mathlib.Core.Bool.{Bool, true, false, not}
 use mathlib.Core.List.{List, ◌∷◌}
 use mathlib.Core.Logic.{◌≢◌}
 use mathlib.Core.Path.{◌≡◌, refl, sym, ap, ◌∙◌}
-use Prim.Native.Nat.{ℕ, ◌≤◌}
+use Prim.Native.Nat.{ℕ}
 use native.Mathlib.Omega.{arith}
 use borrow.Author.Tests.{eq-eqb, ne_eqb}
 use Rattle.card.specs.declared.answer.Answer.{Answer}
@@ -19,9 +19,8 @@ use Rattle.card.specs.Answer.{refused_answer}
 use Rattle.card.specs.Refusal.{Check, refusal, first_refusal}
 use Rattle.card.proofs.RefusalLaws.{first_holds, first_not}
 use Rattle.files.specs.File.{ends_in_lf?}
-use Rattle.lines.specs.Lines.{largest_number, refused_text}
-use Rattle.told.specs.Told.{file_check, told_text}
-use Rattle.told.proofs.PrintableLaws.{Printable}
+use Rattle.lines.specs.Lines.{refused_text}
+use Rattle.told.specs.Told.{file_check, told_text, Printable}
 
 module _ (file : List ℕ) (cs : List Check) where
   pub file_open : ends_in_lf? file ≡ false → first_refusal (file_check file ∷ cs) ≡ refusal 1 0 0 0
@@ -51,13 +50,13 @@ pub record Numbers (number list line place : ℕ) (r : Refusal) : Type 0 where
   pub same_place : place ≡ r.place
 
 module _ (number list line place : ℕ) (r : Refusal) (s : Numbers number list line place r) where
-  pub numbers_printable : Printable r → (number ≤ largest_number) × (list ≤ largest_number) × (line ≤ largest_number) × (place ≤ largest_number)
-  numbers_printable p = (
-    omega (arith, s.same_number, p.number),
-    omega (arith, s.same_list, p.list),
-    omega (arith, s.same_line, p.line),
-    omega (arith, s.same_place, p.place),
-  )
+  pub numbers_printable : Printable r → Printable (refusal number list line place)
+  numbers_printable p = record {
+    number = omega (arith, s.same_number, p.number);
+    list = omega (arith, s.same_list, p.list);
+    line = omega (arith, s.same_line, p.line);
+    place = omega (arith, s.same_place, p.place);
+  }
 
   pub numbers_refused : (text : List ℕ) → number ≢ 0 → told_text r text ≡ refused_text number list line place
   numbers_refused text n = told_refused r text (rw s.same_number at n) ∙ rw (s.same_number, s.same_list, s.same_line, s.same_place)

@@ -3,3 +3,4 @@
 #![tactic(auto)]
 
 pub mod marked;
+pub mod refused;

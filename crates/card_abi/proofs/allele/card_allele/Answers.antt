@@ -1,32 +1,49 @@
 -- `card_abi::allele::card_allele` meets its contract: it answers what `allele_shown` shows, and a part of an accepted text or a reference
 -- starts and ends below 2 to the 32nd. Assumes nothing.
-use mathlib.Core.Path.{sym, ap, ◌∙◌}
+use mathlib.Core.Bool.{true, false}
+use mathlib.Core.Path.{sym, ◌∙◌}
 use native.Mathlib.Omega.{arith}
+use Rattle.card.specs.Allele.{shown}
 use Rattle.card.proofs.AlleleLaws.{shown_short}
-use Rattle.card_abi.proofs.AnswerLaws.{answer_refused, answer_there}
-use Rattle.card_abi.specs.Answer.{allele_answer}
+use Rattle.card.proofs.StandsLaws.{stands_there, stands_not, stands_reference, stands_text}
+use Rattle.card_abi.proofs.AnswerLaws.{answer_refused, answer_stands}
 use Rattle.card_abi.proofs.allele.card_allele.Goals as goal
-use Rattle.card_abi.proofs.allele.card_allele.Goals.{then-s, else-s}
 
-pub returns-then-refusal-ne0 : goal.returns-then-refusal-ne0
-returns-then-refusal-ne0 c =
-    let s = c.allele_shown-s.result in
-    c.refuse.ensures ∙ sym (answer_refused s c.if-refusal-ne0.true) ∙ ap allele_answer c.allele_shown-s.ensures
-
-pub overflow_cast-result : goal.overflow_cast-result
-overflow_cast-result c =
+pub answer_part-requires : goal.answer_part-requires
+answer_part-requires c =
     let a = c.args in
-    let short = rw (← c.allele_shown-s.ensures) at (shown_short a.reference.now a.name.now a.text.now a.entry a.allele) in
+    let s = shown a.reference.now a.name.now a.text.now a.entry a.allele in
+    let told = stands_reference s c.allele_shown.result c.allele_shown.ensures c.in-Ok-InReference.part (rw c.in-Ok-InReference.field-0-is at c.in-Ok-InReference.is) in
+    let short = rw told.1 at (shown_short a.reference.now a.name.now a.text.now a.entry a.allele) in
     omega arith
 
-pub overflow_cast-result-2 : goal.overflow_cast-result-2
-overflow_cast-result-2 c =
+pub returns-in-Ok-InReference : goal.returns-in-Ok-InReference
+returns-in-Ok-InReference c =
     let a = c.args in
-    let short = rw (← c.allele_shown-s.ensures) at (shown_short a.reference.now a.name.now a.text.now a.entry a.allele) in
+    let s = shown a.reference.now a.name.now a.text.now a.entry a.allele in
+    let told = stands_reference s c.allele_shown.result c.allele_shown.ensures c.in-Ok-InReference.part (rw c.in-Ok-InReference.field-0-is at c.in-Ok-InReference.is) in
+    let zero = stands_there s c.allele_shown.result c.allele_shown.ensures c.in-Ok-InReference.field-0 c.in-Ok-InReference.is in
+    c.answer_part.ensures ∙ sym (answer_stands s false c.in-Ok-InReference.part zero told.0 told.1)
+
+pub answer_part-requires-in-Ok-InText : goal.answer_part-requires-in-Ok-InText
+answer_part-requires-in-Ok-InText c =
+    let a = c.args in
+    let s = shown a.reference.now a.name.now a.text.now a.entry a.allele in
+    let told = stands_text s c.allele_shown.result c.allele_shown.ensures c.in-Ok-InText.part (rw c.in-Ok-InText.field-0-is at c.in-Ok-InText.is) in
+    let short = rw told.1 at (shown_short a.reference.now a.name.now a.text.now a.entry a.allele) in
     omega arith
 
-pub returns : goal.returns
-returns c =
-    let s = c.allele_shown-s.result in
-    rw (← c.allele_shown-s.ensures, answer_there s c.if-refusal-ne0.false)
-    (elim c.if-s.branch [ then-s w ↦ rw (w.list-is, w.if-s.true) | else-s w ↦ rw (w.list-is, w.if-s.false) ])
+pub returns-in-Ok-InText : goal.returns-in-Ok-InText
+returns-in-Ok-InText c =
+    let a = c.args in
+    let s = shown a.reference.now a.name.now a.text.now a.entry a.allele in
+    let told = stands_text s c.allele_shown.result c.allele_shown.ensures c.in-Ok-InText.part (rw c.in-Ok-InText.field-0-is at c.in-Ok-InText.is) in
+    let zero = stands_there s c.allele_shown.result c.allele_shown.ensures c.in-Ok-InText.field-0 c.in-Ok-InText.is in
+    c.answer_part-in-Ok-InText.ensures ∙ sym (answer_stands s true c.in-Ok-InText.part zero told.0 told.1)
+
+pub returns-in-Err : goal.returns-in-Err
+returns-in-Err c =
+    let a = c.args in
+    let s = shown a.reference.now a.name.now a.text.now a.entry a.allele in
+    let told = stands_not s c.allele_shown.result c.allele_shown.ensures c.in-Err.refusal c.in-Err.is in
+    c.into.ensures ∙ sym (answer_refused s told.1 ∙ rw told.0)
