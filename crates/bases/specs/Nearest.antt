@@ -16,7 +16,8 @@ upper q y i (suc n) = pick (differ? q y i) (Some i) (upper q y (i + 1) n)
 unfoldable pub nearest : ℕ → List ℕ → ℕ → ℕ → ℕ → Option ℕ
 nearest q y above n zero = upper q y above n
 nearest q y above zero (suc below) = pick (differ? q y below) (Some below) (nearest q y above zero below)
-nearest q y above (suc n) (suc below) = pick (differ? q y above) (Some above) (pick (differ? q y below) (Some below) (nearest q y (above + 1) n below))
+nearest q y above (suc n) (suc below) =
+    pick (differ? q y above) (Some above) (pick (differ? q y below) (Some below) (nearest q y (above + 1) n below))
 
 -- From a place on, over all that have a base q behind them.
 abbrev pub nearest_to : ℕ → ℕ → List ℕ → Option ℕ

@@ -8,8 +8,8 @@ use Rattle.bases.specs.Put.{put}
 abbrev pub HasRoom : Writer → ℕ → Type 0
 HasRoom o n = o.at + n ≤ length o.room.now
 
--- The bytes s were written: they stand where the writer stood, it stands behind them, and nothing else of the room has changed, which is the
--- same room.
+-- The bytes s were written: they stand where the writer stood, it stands behind them, and nothing else of the room, which is the same, has
+-- changed.
 pub record Wrote (old : Writer) (s : List ℕ) (new : Writer) : Type 0 where
   pub at : new.at ≡ old.at + length s
   pub room : new.room.now ≡ put old.room.now old.at s

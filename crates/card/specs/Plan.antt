@@ -23,4 +23,6 @@ module _ (reference name first second : List ℕ) (room : ℕ) where
 -- The lent records afterwards: the plan is written into the first of them, one a cluster.
 abbrev pub plan_after : List ℕ → List ℕ → List ℕ → List ℕ → List Cluster → List Cluster
 plan_after reference name first second plan =
-    pick (eqb (plan_refusal reference name first second (length plan)).number 0) (put plan 0 (plan_of (bases_of reference) first second)) plan
+    pick (eqb (plan_refusal reference name first second (length plan)).number 0)
+    (put plan 0 (plan_of (bases_of reference) first second))
+    plan

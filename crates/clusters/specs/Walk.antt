@@ -15,4 +15,6 @@ pub record Walks (w : Clusters) : Type 0 where
 -- The records of the clusters that are left.
 abbrev pub clusters_left : Clusters → List Cluster
 clusters_left w =
-    records_from w.entry (card_plan (bases_of w.lists.reference.now) (variants_from (bases_of w.lists.reference.now) w.lists.first.now w.lists.second.now w.heads))
+    records_from w.entry
+    (card_plan (bases_of w.lists.reference.now)
+    (variants_from (bases_of w.lists.reference.now) w.lists.first.now w.lists.second.now w.heads))

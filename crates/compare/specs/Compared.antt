@@ -20,7 +20,8 @@ accepted_text reference first second =
     printed_text (plan_of reference first second) (merged_items first second) (all_marks reference cs) (total_score reference cs)
 
 unfoldable pub compared_text : List ℕ → List ℕ → List ℕ → List ℕ → List ℕ
-compared_text file name first second = told_text (refusal_of file name first second) (accepted_text (bases_of (reference_in file)) first second)
+compared_text file name first second =
+    told_text (refusal_of file name first second) (accepted_text (bases_of (reference_in file)) first second)
 
 -- The same for what the program is given.
 abbrev pub compared_in : List ℕ → Given → List ℕ

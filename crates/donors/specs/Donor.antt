@@ -1,5 +1,5 @@
--- Donors. Document 01: the donor of a list on a copy is the reference with each chosen span replaced by the allele for that copy. Request c:
--- "a copy that carries the reference allele is not touched", so the spans replaced on a copy are those of alleles other than REF.
+-- Donors. Document 01: the donor of a list on a copy is the reference with each chosen span replaced by the allele for that copy. Request
+-- c: "a copy that carries the reference allele is not touched", so the spans replaced on a copy are those of alleles other than REF.
 -- Assumes nothing: these are definitions.
 use Rattle.std.specs.Prelude.{List, [], ◌∷◌, ◌++◌, ℕ, ◌+◌, ◌-◌, take, drop}
 

@@ -1,5 +1,5 @@
--- A table of entries. A row says the entry's list, where REF starts, how long REF is, its weight, and for copies 0 and 1 the allele: whether
--- it takes the entry's span, whether its bytes stand in the text of its list or in the reference, from where on, and how many.
+-- A table of entries. A row says the entry's list, where REF starts, how long REF is, its weight, and for copies 0 and 1 the allele:
+-- whether it takes the entry's span, whether its bytes stand in the text of its list or in the reference, from where on, and how many.
 -- Assumes nothing: these are definitions.
 use Rattle.std.specs.Prelude.{Bool, false, ◌&&◌, List, [], ◌∷◌, ℕ, zero, suc, ◌+◌, ◌≤◌, eqb, length, get_or}
 use Rattle.std.specs.Bool.{beq}

@@ -1,5 +1,5 @@
 // FORMAT and the genotype: rows 11 and 12.
-ghost use Rattle.std.specs.Prelude.{◌≡◌, ◌≤◌};
+ghost use Rattle.std.specs.Prelude.{◌≡◌};
 ghost use Rattle.fields.specs.Genotype.{format_wrong?, genotype, digit_to?, copies_wrong?};
 
 use crate::bytes::{COLON, begins, find};

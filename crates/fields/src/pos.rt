@@ -1,5 +1,5 @@
 // POS: row 8.
-ghost use Rattle.std.specs.Prelude.{◌≡◌, ◌≤◌};
+ghost use Rattle.std.specs.Prelude.{◌≡◌};
 ghost use Rattle.fields.specs.Pos.{digit?, read_pos};
 
 use bases::place::Pos;

@@ -80,7 +80,9 @@ module _ (reference first second : List ℕ) where
   -- The records of the entries from there on.
   abbrev pub listed_on : Stand → List Listed
   listed_on s =
-      listed_from s.nexts (numbers_on card_rules reference s.current s.begun (variants_from reference first second s.heads)) (items_from first second s.heads)
+      listed_from s.nexts
+      (numbers_on card_rules reference s.current s.begun (variants_from reference first second s.heads))
+      (items_from first second s.heads)
 
 -- What a walk leans on, and the records of the entries that it has left.
 abbrev pub Goes : Entries → Type 0

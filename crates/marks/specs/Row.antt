@@ -7,7 +7,8 @@ use Rattle.vcf.specs.declared.entry.Entry.{Entry}
 use Rattle.clusters.specs.declared.item.Item.{Item}
 use Rattle.clusters.specs.Item.{named, start_of, takes_room?, len_of}
 
--- Allele k: whether it takes its entry's span, and where its bytes stand: those of REF in the reference, those of an ALT in the list's text.
+-- Allele k: whether it takes its entry's span, and where its bytes stand: those of REF in the reference, those of an ALT in the
+-- list's text.
 abbrev pub stand_of : Entry → ℕ → Allele
 stand_of e k = record {
   room = takes_room? k;

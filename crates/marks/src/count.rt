@@ -1,5 +1,5 @@
 // What marks count: the entries marked `+` or `-`, those marked `0`, and those marked `?`; over all marks, and in each of two lists.
-ghost use Rattle.std.specs.Prelude.{◌≡◌, ◌≤◌, length, take};
+ghost use Rattle.std.specs.Prelude.{◌≡◌, ◌≤◌, length};
 ghost use Rattle.marks.specs.Counts.{matched?, add_mark, add_entry, count_all, counts_of, most_entries, Few};
 ghost use Rattle.clusters.specs.Heads.{Readable, start_heads};
 ghost use Rattle.clusters.specs.Merged.{merged_items};

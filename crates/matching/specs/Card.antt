@@ -5,7 +5,8 @@ use Rattle.std.specs.Prelude.{Bool, List, [], ◌∷◌, ◌≡◌, refl, ℕ, �
 use Rattle.std.proofs.Common.{inl, inr, arith}
 use Rattle.bases.specs.Pick.{pick}
 use Rattle.donors.specs.Apart.{Pairwise}
-use Rattle.donors.specs.Choice.{Choice, plus, minus, out, Copy, copy0, copy1, Variant, chosen?, card_rules, chosen_of, carriers_of, SpansApart}
+use Rattle.donors.specs.Choice.{Choice, plus, minus, out, Copy, copy0, copy1, Variant, chosen?}
+use Rattle.donors.specs.Choice.{card_rules, chosen_of, carriers_of, SpansApart}
 use Rattle.donors.specs.Rules.{list1, list2, donor_of}
 use Rattle.matching.specs.Best.{Best, Scoring}
 use Rattle.matching.specs.BestOf.{Covers, Finite, best_of}

@@ -22,7 +22,8 @@ card_legal? R xs φ = legal? card_rules card_finite R xs φ
 
 -- The card's search: the best legal string that goes on from φ, with so many choices left to make.
 abbrev pub card_search : List ℕ → List Variant → ℕ → List Choice → Option (List Choice)
-card_search R xs left φ = search rank_of (score card_scoring xs) card_finite.choices (keep? card_rules card_finite xs) (card_legal? R xs) left φ
+card_search R xs left φ =
+    search rank_of (score card_scoring xs) card_finite.choices (keep? card_rules card_finite xs) (card_legal? R xs) left φ
 
 -- The same, as the code answers.
 abbrev pub answer_from : List ℕ → List Variant → ℕ → List Choice → Answer
