@@ -7,6 +7,8 @@ use Prim.Native.Nat.{ℕ}
 use contract.Lifetimes.{Lfts}
 use denote.Triple.Clauses.{AtExit}
 use borrow.Fn.Kinds.{ParamKind, ResultKind, Dens, res_t, ended_of, Out}
+use Rattle.bases.proofs.bytes.agree.Kinds as bytes-agree-kinds
+use Rattle.bases.proofs.bytes.agree.Reads as bytes-agree
 use Rattle.bases.proofs.bytes.same_bytes.Kinds as same-bytes-kinds
 use Rattle.bases.proofs.bytes.same_bytes.Reads as same_bytes
 use Rattle.bases.proofs.letter.letter.Kinds as letter-kinds
@@ -106,6 +108,9 @@ place_of_determines κs a z z' e e' p q = p ∙ sym q
 
 pub has_any_period_determines : OneResult 1 has-any-period-kinds.ps has-any-period-kinds.r has-any-period.Post
 has_any_period_determines κs a z z' e e' p q = p ∙ sym q
+
+pub bytes_agree_determines : OneResult 2 bytes-agree-kinds.ps bytes-agree-kinds.r bytes-agree.Post
+bytes_agree_determines κs a z z' e e' p q = p ∙ sym q
 
 pub same_bytes_determines : OneResult 2 same-bytes-kinds.ps same-bytes-kinds.r same_bytes.Post
 same_bytes_determines κs a z z' e e' p q = p ∙ sym q

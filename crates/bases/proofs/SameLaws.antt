@@ -1,6 +1,6 @@
 -- Laws of agreeing and equal lists.
 --     agree_nil                           every list agrees with the empty one
---     agree_all_bases                     as `all` over the two side by side
+--     agree_all, agree_all_bases          as `all` over the two side by side
 --     agree_past_second                   two lists, the second from where it has ended
 --     agree_iff, same_iff                 what the tests say, place by place and whole
 --     same_eq, eq_same                    equal lists are those that `==` finds equal, whichever stands first
@@ -27,6 +27,12 @@ pub agree_nil : (x : List ℕ) → agree? x [] ≡ true
 unfolding agree?
 agree_nil [] = refl
 agree_nil (a ∷ x) = refl
+
+pub agree_all : (x y : List ℕ) → list_all (λ p. eqb p.0 p.1) (zip x y) ≡ agree? x y
+unfolding agree?
+agree_all [] y = refl
+agree_all (a ∷ x) [] = refl
+agree_all (a ∷ x) (b ∷ y) = rw (agree_all x y)
 
 pub agree_all_bases : (x y : List ℕ) → list_all (λ p. eqb (letter_of p.0) (letter_of p.1)) (zip x y) ≡ agree? (bases_of x) (bases_of y)
 unfolding agree?

@@ -1,7 +1,7 @@
 // The rows on a record's line, in their order: 4, 5, 15, 6 to 9, 20 to 23 (alt.rt), 11 to 14.
-ghost use Rattle.std.specs.Prelude.{false, ◌≡◌, ◌≤◌};
+ghost use Rattle.std.specs.Prelude.{T, false, ◌≡◌, ◌≤◌};
 ghost use Rattle.bases.specs.Letter.{bases_of};
-ghost use Rattle.fields.specs.Field.{field};
+ghost use Rattle.fields.specs.Field.{field, ten_fields?};
 ghost use Rattle.records.specs.Record.{too_long?, chrom_wrong?, pos_on, ref_wrong?, genotype_wrong?, no_alt?, off_reference?};
 ghost use Rattle.records.specs.Record.{later_rows, field_rows, record_rows};
 ghost use Rattle.records.specs.Row.{first_row, told};
@@ -12,7 +12,7 @@ use bases::place::{Pos, place_of};
 use bases::reference::{base_count, part_agrees};
 use fields::allele::{alt_count, is_allele};
 use fields::bytes::begins;
-use fields::field::has_ten_fields;
+use fields::field::{field_from, has_ten_fields};
 use fields::genotype::{copies_wrong, format_wrong};
 
 // The most bytes of a line, without its LF.
@@ -28,14 +28,14 @@ pub fn is_too_long(line: &[u8]) -> bool
     LONGEST_LINE < line.len()
 }
 
-impl<'a> Record<'a> {
-    // Row 7: is CHROM not the name?
-    fn chrom_wrong(&self, name: &[u8]) -> bool
-        ensures { result ≡ chrom_wrong? name.now self.now.line.now }
-    {
-        self.chrom() != name
-    }
+// Row 7: is CHROM not the name?
+fn chrom_wrong(name: &[u8], line: &[u8]) -> bool
+    ensures { result ≡ chrom_wrong? name.now line.now }
+{
+    field_from(line, 0) != name
+}
 
+impl<'a> Record<'a> {
     // Row 9: is REF no allele?
     fn ref_wrong(&self) -> bool
         ensures { result ≡ ref_wrong? self.now.line.now }
@@ -92,24 +92,26 @@ impl<'a> Record<'a> {
         }
         Ok(())
     }
+}
 
-    // The first row that holds on the fields, behind a record at POS `last`; or none.
-    fn field_fault(&self, reference: &[u8], name: &[u8], last: Pos) -> Result<(), LineFault>
-        ensures { result ≡ told (first_row (field_rows (bases_of reference.now) name.now last self.now.line.now)) }
-    {
-        if self.chrom_wrong(name) {
-            return Err(LineFault { number: 7, at: 0 });
-        }
-        let pos = self.pos();
-        if pos == Pos(0) {
-            return Err(LineFault { number: 8, at: 0 });
-        }
-        if self.ref_wrong() {
-            return Err(LineFault { number: 9, at: 0 });
-        }
-        self.alt_fault()?;
-        self.later_fault(reference, pos, last)
+// The first row that holds on the fields of a line of ten, behind a record at POS `last`; or none. CHROM is read before the line is split.
+fn field_fault(reference: &[u8], name: &[u8], last: Pos, line: &[u8]) -> Result<(), LineFault>
+    requires { T (ten_fields? line.now) }
+    ensures { result ≡ told (first_row (field_rows (bases_of reference.now) name.now last line.now)) }
+{
+    if chrom_wrong(name, line) {
+        return Err(LineFault { number: 7, at: 0 });
     }
+    let record = record_on(line);
+    let pos = record.pos();
+    if pos == Pos(0) {
+        return Err(LineFault { number: 8, at: 0 });
+    }
+    if record.ref_wrong() {
+        return Err(LineFault { number: 9, at: 0 });
+    }
+    record.alt_fault()?;
+    record.later_fault(reference, pos, last)
 }
 
 // The first row that holds on a line below the column line, behind so many records, the last at POS `last`; or none.
@@ -134,5 +136,5 @@ pub fn record_fault(
     if !has_ten_fields(line) {
         return Err(LineFault { number: 6, at: 0 });
     }
-    record_on(line).field_fault(reference, name, last)
+    field_fault(reference, name, last, line)
 }

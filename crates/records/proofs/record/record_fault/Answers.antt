@@ -1,13 +1,9 @@
 -- `records::record::record_fault` meets its contract: its tests are the rows' tests, in their order. Assumes nothing.
 use mathlib.Core.Bool.{not}
-use mathlib.Core.List.{List}
-use Prim.Native.Nat.{ℕ}
 use mathlib.Core.Path.{sym, ap, ◌∙◌}
 use borrow.Author.Tests.{le-leb, lt-leb}
 use Rattle.bases.proofs.TestLaws.{of_true}
-use Rattle.bases.specs.Letter.{bases_of}
-use Rattle.records.specs.Record.{field_rows}
-use Rattle.records.specs.Row.{first_row, told}
+use Rattle.records.specs.Row.{told}
 use Rattle.records.proofs.RowLaws.{first_row_holds, first_row_not}
 use Rattle.records.proofs.record.record_fault.Goals as goal
 
@@ -33,12 +29,11 @@ returns-then-not-has_ten_fields c = sym (ap told
     ∙ first_row_not _ _ (lt-leb _ _ c.if-records-ge-MOST_RECORDS.false)
     ∙ first_row_holds _ _ (ap not (sym c.has_ten_fields.ensures ∙ c.if-not-has_ten_fields.true))))
 
-pub record_on-requires : goal.record_on-requires
-record_on-requires c = of_true (sym c.has_ten_fields.ensures ∙ c.if-not-has_ten_fields.false)
+pub field_fault-requires : goal.field_fault-requires
+field_fault-requires c = of_true (sym c.has_ten_fields.ensures ∙ c.if-not-has_ten_fields.false)
 
 pub returns : goal.returns
 returns c = c.field_fault.ensures
-    ∙ ap (λ (l : List ℕ). told (first_row (field_rows (bases_of c.args.reference.now) c.args.name.now c.args.last l))) c.record_on.ensures
     ∙ sym (ap told
     (first_row_not _ _ (sym c.is_too_long.ensures ∙ c.if-is_too_long.false)
     ∙ first_row_not _ _ (sym c.begins.ensures ∙ c.if-begins.false)
