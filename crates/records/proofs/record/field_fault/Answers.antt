@@ -1,4 +1,4 @@
--- `records::record::field_fault` meets its contract: its tests are the rows' tests, in their order, behind row 7 those of the record on the line.
+-- `records::record::field_fault` meets its contract: its tests are the rows' tests, in their order, behind row 7 those of the line's record.
 -- Assumes nothing.
 use mathlib.Core.List.{List}
 use mathlib.Core.Path.{sym, ap, ◌∙◌}
@@ -50,7 +50,9 @@ returns c = let l = c.args.line.now in
     let pos = c.pos-pos.ensures ∙ ap pos_on e in
     let ref = c.ref_wrong.ensures ∙ ap ref_wrong? e in
     let alt = told_ok _ _ (c.in_ok-alt_fault.ensures ∙ ap (λ (x : List ℕ). told (first_row (alt_rows x))) e) in
-    c.later_fault.ensures ∙ ap (λ (x : List ℕ). told (first_row (later_rows (bases_of c.args.reference.now) c.args.last x))) e ∙ sym (ap told
+    c.later_fault.ensures
+    ∙ ap (λ (x : List ℕ). told (first_row (later_rows (bases_of c.args.reference.now) c.args.last x))) e
+    ∙ sym (ap told
     (first_row_not _ _ (sym c.chrom_wrong.ensures ∙ c.if-chrom_wrong.false)
     ∙ first_row_not _ _ (sym (c.eq.ensures ∙ ap (λ (p : Pos). eqb p.0 0) pos) ∙ c.if-eq.false)
     ∙ first_row_not _ _ (sym ref ∙ c.if-ref_wrong.false)
