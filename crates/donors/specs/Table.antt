@@ -8,8 +8,6 @@ use Rattle.bases.specs.Pick.{pick}
 use Rattle.bases.specs.Stretch.{stretch}
 use Rattle.donors.specs.declared.table.Allele.{Allele}
 use Rattle.donors.specs.declared.table.Row.{Row}
-use Rattle.donors.specs.declared.table.WhichCopy.{WhichCopy}
-use Rattle.donors.specs.declared.table.WhichCopy.TheVariants.{Copy0, Copy1}
 use Rattle.donors.specs.Choice.{Choice, plus, minus, out, Copy, copy0, copy1, Variant, chosen?, source}
 
 -- The most entries that a table has: the choices of a cluster are twelve values at most.
@@ -68,10 +66,9 @@ unfoldable pub choices_from : List ℕ → ℕ → ℕ → List Choice
 choices_from φ i zero = []
 choices_from φ i (suc n) = choice_of (get_or φ i 0) ∷ choices_from φ (i + 1) n
 
--- The copy that the code names.
-abbrev pub copy_of : WhichCopy → Copy
-copy_of Copy0 = copy0
-copy_of Copy1 = copy1
+-- The copy of a number: 0, and any other number is copy 1.
+abbrev pub copy_of : ℕ → Copy
+copy_of n = pick (eqb n 0) copy0 copy1
 
 -- The allele of a row for a copy, as written.
 abbrev pub allele_for : Row → Copy → Allele

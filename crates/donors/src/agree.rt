@@ -6,7 +6,7 @@ ghost use Rattle.bases.specs.Stretch.{stretch};
 ghost use Rattle.donors.specs.Agree.{CaseReady, CaseApart, case_agrees?};
 ghost use Rattle.donors.specs.Table.{bases_from, copy_of};
 
-use crate::table::{MOST, Row, WhichCopy};
+use crate::table::{MOST, Row};
 use crate::walk::{Along, beginning, past, with_piece};
 use bases::reference::{base_count, part_agrees, stretches_agree};
 use bases::same::parts_agree;
@@ -42,7 +42,7 @@ pub struct Case<'a> {
 
 // Are the donors of the two lists on a copy equal, with the case's entries and their choices? The first two bases that differ end the
 // walk. Where neither list has an entry left, what is left of the reference is the same exactly if both walks stand at one place.
-pub fn donors_agree(case: &Case, choices: &[u8; MOST], copy: WhichCopy) -> bool
+pub fn donors_agree(case: &Case, choices: &[u8; MOST], copy: usize) -> bool
     requires { CaseReady case.now
         × CaseApart case.now choices.now (copy_of copy) }
     ensures { result ≡ case_agrees? case.now choices.now (copy_of copy) }

@@ -6,6 +6,11 @@ ghost use Rattle.donors.specs.Table.{choice_of, copy_of, allele_of, room_at?, ro
 // The most rows that a table has.
 pub const MOST: usize = 12;
 
+// The two copies of each base. Any number but 0 is copy 1: `copy_of` of specs/Table.antt.
+pub const COPY0: usize = 0;
+
+pub const COPY1: usize = 1;
+
 // An allele: whether it takes its entry's span, and where its bytes stand: in the text of its list or in the reference. `text` is no enum
 // round `at` and `len`: `bases_from` and `stretch` of the definitions take the text and the place apart; `room` is asked of an allele by
 // itself (`room_at?`). As all numbers of a table these are below 2^32: a sum of two does not wrap, and a table takes no more than 480
@@ -30,13 +35,6 @@ pub struct Row {
     pub copy1: Allele,
 }
 
-// One of the two copies of each base.
-#[derive(Clone, Copy, PartialEq, Eq)]
-pub enum WhichCopy {
-    Copy0,
-    Copy1,
-}
-
 // Choices are the bytes `+`, `-` and `0`, and no enum: card lends the marks as bytes, and put_choices of crate marks copies these there.
 // Does the choice take the entry in? `+` and `-` do.
 fn is_chosen(choice: u8) -> bool
@@ -46,24 +44,24 @@ fn is_chosen(choice: u8) -> bool
 }
 
 // The allele that the entry of a row puts on a copy, if it is chosen: as written for `+`, the other copy's for `-`.
-pub fn allele_of(row: &Row, choice: u8, copy: WhichCopy) -> Allele
+pub fn allele_of(row: &Row, choice: u8, copy: usize) -> Allele
     ensures { result ≡ allele_of row.now (choice_of choice) (copy_of copy) }
 {
-    if (choice == b'-') == (copy == WhichCopy::Copy0) {
+    if (choice == b'-') == (copy == COPY0) {
         return row.copy1;
     }
     row.copy0
 }
 
 // Does the entry of a row, with this choice, take its span on a copy?
-pub fn has_room(row: &Row, choice: u8, copy: WhichCopy) -> bool
+pub fn has_room(row: &Row, choice: u8, copy: usize) -> bool
     ensures { result ≡ room_at? row.now (choice_of choice) (copy_of copy) }
 {
     is_chosen(choice) && allele_of(row, choice, copy).room
 }
 
 // Does the entry of a row, with this choice, take its span for list 1 (or 2) on a copy?
-pub fn takes(row: &Row, choice: u8, first: bool, copy: WhichCopy) -> bool
+pub fn takes(row: &Row, choice: u8, first: bool, copy: usize) -> bool
     ensures { result ≡ row_takes? row.now (choice_of choice) first (copy_of copy) }
 {
     first == row.first && has_room(row, choice, copy)

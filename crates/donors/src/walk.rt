@@ -3,7 +3,7 @@ ghost use Rattle.std.specs.Prelude.{◌≡◌, ◌+◌, ◌-◌, ◌≤◌, ◌<
 ghost use Rattle.donors.specs.Table.{most, copy_of};
 ghost use Rattle.donors.specs.Walk.{beginning, passed, next_row, next_piece, with_piece};
 
-use crate::table::{MOST, Row, WhichCopy, allele_of, takes};
+use crate::table::{MOST, Row, allele_of, takes};
 
 // Where a walk stands: `len` bytes of its piece are left, from `at` on in the text of the list or in the reference. Behind the piece the
 // donor goes on at place `place` of the reference, with the rows from `row` on. Where none is left `row` is above their number, and the
@@ -38,7 +38,7 @@ fn next_row(
     n: usize,
     choices: &[u8; MOST],
     first: bool,
-    copy: WhichCopy,
+    copy: usize,
     from: usize,
 ) -> usize
     requires { n ≤ most }
@@ -59,7 +59,7 @@ fn next_piece(
     n: usize,
     choices: &[u8; MOST],
     first: bool,
-    copy: WhichCopy,
+    copy: usize,
     along: Along,
 ) -> Along
     requires { (n ≤ most)
@@ -104,7 +104,7 @@ pub fn with_piece(
     n: usize,
     choices: &[u8; MOST],
     first: bool,
-    copy: WhichCopy,
+    copy: usize,
     along: Along,
 ) -> Along
     requires { (n ≤ most)

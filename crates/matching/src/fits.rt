@@ -6,7 +6,7 @@ ghost use Rattle.matching.specs.Answer.{can_beat?};
 ghost use Rattle.matching.specs.Fits.{end_before, fits_on?, fits?};
 
 use crate::answer::{Best, can_beat};
-use donors::table::{MOST, Row, WhichCopy, has_room, takes};
+use donors::table::{COPY0, COPY1, MOST, Row, has_room, takes};
 
 // Where the last row before row `at` ends that takes its span for list 1 (or 2) on a copy: 0 where none does, as `end_before`
 // of specs/Fits.antt has it.
@@ -14,7 +14,7 @@ fn end_before(
     table: &[Row; MOST],
     choices: &[u8; MOST],
     first: bool,
-    copy: WhichCopy,
+    copy: usize,
     at: usize,
 ) -> usize
     requires { at ≤ most }
@@ -30,13 +30,7 @@ fn end_before(
 }
 
 // Does row `at` with this choice overlap no earlier row of its list on a copy?
-fn fits_on(
-    table: &[Row; MOST],
-    choices: &[u8; MOST],
-    at: usize,
-    choice: u8,
-    copy: WhichCopy,
-) -> bool
+fn fits_on(table: &[Row; MOST], choices: &[u8; MOST], at: usize, choice: u8, copy: usize) -> bool
     requires { at < most }
     ensures { result ≡ fits_on? table.now choices.now at (choice_of choice) (copy_of copy) }
 {
@@ -50,8 +44,7 @@ pub fn fits(table: &[Row; MOST], choices: &[u8; MOST], at: usize, choice: u8) ->
     requires { at < most }
     ensures { result ≡ fits? table.now choices.now at (choice_of choice) }
 {
-    fits_on(table, choices, at, choice, WhichCopy::Copy0)
-        && fits_on(table, choices, at, choice, WhichCopy::Copy1)
+    fits_on(table, choices, at, choice, COPY0) && fits_on(table, choices, at, choice, COPY1)
 }
 
 // Is that choice tried, where no answer below it scores more than `top`? It is where such an answer would be better than the best so far,
