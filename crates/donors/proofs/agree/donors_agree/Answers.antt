@@ -19,7 +19,7 @@ with_piece-y-requires c = (c.requires.0.few, rw c.base_count-size.ensures c.loop
 pub returns-then-n-y : goal.returns-then-n-y
 returns-then-n-y c =
     let o = beside_next c.base_count-size.ensures c.requires.0 c.loop-x.invariant c.with_piece-x.ensures c.with_piece-y.ensures in
-    beside_last o c.if-n-x.true c.if-n-y.true
+    beside_last o (omega arith) (omega arith)
 
 pub returns-then-m-eq0 : goal.returns-then-m-eq0
 returns-then-m-eq0 c =
