@@ -2,7 +2,8 @@
 --     count_none, count_zero, count_led     nothing is no count; a zero is one alone; behind another byte all have to be digits
 --     count_digits                          a count is all digits
 --     digits_here                           where all bytes from i on are digits, so are the one at i and those behind it
---     capped_small, capped_more             a number no larger than the largest count; digits behind a number that is capped
+--     capped_small, capped_full             a number no larger than the largest count; digits behind one that is no smaller
+--     capped_more                           digits behind a number that is capped
 -- Assumes nothing.
 use mathlib.Core.Bool.{Bool, true, false, not, ◌&&◌, ◌||◌, and-false, and-true, or-true}
 use mathlib.Core.List.{List, [], ◌∷◌}
@@ -67,6 +68,9 @@ capped_top n h = go (leb n largest_count) refl
     go true e = rw e (omega (arith, leb-true n largest_count e))
     go false e = rw e
 
+pub capped_full : (v : ℕ) (ds : List ℕ) → largest_count ≤ v → capped (value_from v ds) ≡ largest_count
+capped_full v ds h = capped_top (value_from v ds) (omega (arith, h, value_grows v ds))
+
 pub capped_more : (v n : ℕ) (ds : List ℕ) → n ≡ min v largest_count → capped (value_from n ds) ≡ capped (value_from v ds)
 capped_more v n ds e = go (leb v largest_count) refl
   where
@@ -75,4 +79,4 @@ capped_more v n ds e = go (leb v largest_count) refl
     go false t =
         let top : largest_count ≤ v = omega (arith, leb-false v largest_count t) in
         rw (e, min-eq_right top)
-        (capped_top (value_from largest_count ds) (value_grows largest_count ds) ∙ sym (capped_top (value_from v ds) (omega (arith, top, value_grows v ds))))
+        (capped_full largest_count ds (omega arith) ∙ sym (capped_full v ds top))

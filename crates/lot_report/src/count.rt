@@ -16,13 +16,16 @@ pub fn is_count(field: &[u8]) -> bool
     }
 }
 
-// The count that a field of digits writes. What is above the largest is read as that.
+// The count that a field of digits writes. What is above the largest is read as that, and what is behind is not looked at.
 pub fn read_count(field: &[u8]) -> u32
     requires { T (all_digits? field.now) }
     ensures { result ≡ count_of field.now }
 {
     let mut value: u32 = 0;
     for byte in field {
+        if value == u32::MAX {
+            return value;
+        }
         value = value
             .saturating_mul(10)
             .saturating_add(u32::from(byte - b'0'));

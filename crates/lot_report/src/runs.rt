@@ -17,20 +17,15 @@ pub fn count_lines(text: &[u8]) -> usize
     lines_of(text).count()
 }
 
-// The runs on the lines, the first 256 of them; behind the last one stand runs without entries.
+// The runs on the lines, the first 256 of them; behind the last one stand runs without entries. No line behind the 256th is looked for.
 pub fn first_runs(text: &[u8]) -> [Run; MOST_RUNS]
     requires { T (all_runs? (lines_of text.now)) }
     ensures { result ≡ put no_runs 0 (take most_runs (runs_on (lines_of text.now))) }
 {
     let none = Run::default();
     let mut runs = [none; MOST_RUNS];
-    let mut n: usize = 0;
-    for line in lines_of(text) {
-        if n == MOST_RUNS {
-            return runs;
-        }
+    for (n, line) in lines_of(text).take(MOST_RUNS).enumerate() {
         runs[n] = run_on(line);
-        n += 1;
     }
     runs
 }

@@ -7,7 +7,7 @@ use lib.ListN.{get_or, drop}
 use Rattle.bases.proofs.TestLaws.{is_true}
 use Rattle.fields.proofs.PosLaws.{digit_low, value_more, value_past}
 use Rattle.lot_report.specs.Count.{capped, largest_count}
-use Rattle.lot_report.proofs.CountLaws.{digits_here, capped_small, capped_more}
+use Rattle.lot_report.proofs.CountLaws.{digits_here, capped_small, capped_full, capped_more}
 use Rattle.lot_report.proofs.count.read_count.Goals as goal
 
 pub loop-byte-init : goal.loop-byte-init
@@ -26,6 +26,12 @@ loop-byte-preserved c = let f = c.args.field.now in
     let d = get_or f i 0 - 48 in
     let e : n ≡ min (v * 10 + d) largest_count = omega (arith, c.saturating_add-value.ensures, c.saturating_mul.ensures, c.from.ensures) in
     (omega arith, (digits_here f i (omega arith) c.loop-byte.invariant.1).1, capped_more (v * 10 + d) n (drop (i + 1) f) e ∙ ap capped (sym (value_more v f i (omega arith))) ∙ c.loop-byte.invariant.2)
+
+pub returns-then-value : goal.returns-then-value
+returns-then-value c = let f = c.args.field.now in
+    let v = c.loop-byte.value in
+    let e : v ≡ largest_count = omega arith in
+    e ∙ sym (capped_full v (drop c.loop-byte.byte-index f) (omega arith)) ∙ c.loop-byte.invariant.2
 
 pub returns : goal.returns
 returns c = let f = c.args.field.now in
