@@ -5,4 +5,4 @@ use Rattle.lines.proofs.FieldLaws.{number_few}
 use Rattle.lines.proofs.field.put_number.Goals as goal
 
 pub put_digits-requires : goal.put_digits-requires
-put_digits-requires c = (omega arith, (refl, omega (arith, number_few c.args.n)))
+put_digits-requires c = (omega arith, (refl, grind (arith, number_few)))
