@@ -7,9 +7,9 @@ ghost use Rattle.donors.specs.Table.{choice_of, copy_of, allele_of, room_at?, ro
 pub const MOST: usize = 12;
 
 // The two copies of each base. Any number but 0 is copy 1: `copy_of` of specs/Table.antt.
-pub const COPY0: usize = 0;
+pub const COPY_0: usize = 0;
 
-pub const COPY1: usize = 1;
+pub const COPY_1: usize = 1;
 
 // An allele: whether it takes its entry's span, and where its bytes stand: in the text of its list or in the reference. `text` is no enum
 // round `at` and `len`: `bases_from` and `stretch` of the definitions take the text and the place apart; `room` is asked of an allele by
@@ -47,7 +47,7 @@ fn is_chosen(choice: u8) -> bool
 pub fn allele_of(row: &Row, choice: u8, copy: usize) -> Allele
     ensures { result ≡ allele_of row.now (choice_of choice) (copy_of copy) }
 {
-    if (choice == b'-') == (copy == COPY0) {
+    if (choice == b'-') == (copy == COPY_0) {
         return row.copy1;
     }
     row.copy0

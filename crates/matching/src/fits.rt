@@ -6,7 +6,7 @@ ghost use Rattle.matching.specs.Answer.{can_beat?};
 ghost use Rattle.matching.specs.Fits.{end_before, fits_on?, fits?};
 
 use crate::answer::{Best, can_beat};
-use donors::table::{COPY0, COPY1, MOST, Row, has_room, takes};
+use donors::table::{COPY_0, COPY_1, MOST, Row, has_room, takes};
 
 // Where the last row before row `at` ends that takes its span for list 1 (or 2) on a copy: 0 where none does, as `end_before`
 // of specs/Fits.antt has it.
@@ -44,7 +44,7 @@ pub fn fits(table: &[Row; MOST], choices: &[u8; MOST], at: usize, choice: u8) ->
     requires { at < most }
     ensures { result ≡ fits? table.now choices.now at (choice_of choice) }
 {
-    fits_on(table, choices, at, choice, COPY0) && fits_on(table, choices, at, choice, COPY1)
+    fits_on(table, choices, at, choice, COPY_0) && fits_on(table, choices, at, choice, COPY_1)
 }
 
 // Is that choice tried, where no answer below it scores more than `top`? It is where such an answer would be better than the best so far,

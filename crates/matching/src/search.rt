@@ -9,7 +9,7 @@ ghost use Rattle.matching.specs.Made.{Made, answer_from, best_answer, weights_to
 use crate::answer::{Best, can_beat};
 use crate::fits::{fits, is_tried};
 use donors::agree::{Case, donors_agree};
-use donors::table::{COPY0, COPY1, MOST, Row};
+use donors::table::{COPY_0, COPY_1, MOST, Row};
 
 // The best so far, or the best legal choices that go on from those made, with `left` of the n entries left, where those score more.
 // No answer scores more than `top`, the score with every entry left chosen: where that is no more than the best so far has, nothing is
@@ -30,7 +30,7 @@ fn search(
         (choices_from choices 0 (case.now.n - left))) }
 {
     if left == 0 {
-        if donors_agree(case, &choices, COPY0) && donors_agree(case, &choices, COPY1) {
+        if donors_agree(case, &choices, COPY_0) && donors_agree(case, &choices, COPY_1) {
             best = Some(Best {
                 score: top,
                 choices,
