@@ -8,12 +8,10 @@ use lib.ListN.{length, get_or, drop}
 use Rattle.std.proofs.Common.{Option, None, Some}
 use Rattle.std.specs.Iterator.{YieldsFirst}
 use Rattle.clusters.specs.declared.item.Item.{Item}
-use Rattle.clusters.specs.declared.merged.Merged.{Merged}
 use Rattle.clusters.specs.declared.plan.Cluster.{Cluster}
-use Rattle.clusters.specs.declared.plan.Clusters.{Clusters}
 use Rattle.clusters.specs.Items.{items_left}
 use Rattle.clusters.specs.Walk.{clusters_left}
-use Rattle.bases.proofs.Determines.{OneResult}
+use Rattle.bases.proofs.Determines.{OneResult, OneSeen, OneLeft}
 use Rattle.clusters.proofs.cluster.next_cluster.Kinds as next-cluster-kinds
 use Rattle.clusters.proofs.cluster.next_cluster.Reads as next_cluster
 use Rattle.clusters.proofs.gap.begin.Kinds as begin-kinds
@@ -34,6 +32,14 @@ use Rattle.clusters.proofs.heads.start_heads.Kinds as start-heads-kinds
 use Rattle.clusters.proofs.heads.start_heads.Reads as start-heads
 use Rattle.clusters.proofs.item.size_of.Kinds as size-of-kinds
 use Rattle.clusters.proofs.item.size_of.Reads as type_size
+use Rattle.clusters.proofs.merged.merged_from.Kinds as merged-from-kinds
+use Rattle.clusters.proofs.merged.merged_from.Reads as merged_from
+use Rattle.clusters.proofs.merged.MergedIterator.next.Kinds as next-merged-kinds
+use Rattle.clusters.proofs.merged.MergedIterator.next.Reads as next-merged
+use Rattle.clusters.proofs.plan.all_clusters.Kinds as all-clusters-kinds
+use Rattle.clusters.proofs.plan.all_clusters.Reads as all-clusters
+use Rattle.clusters.proofs.plan.ClustersIterator.next.Kinds as next-kinds
+use Rattle.clusters.proofs.plan.ClustersIterator.next.Reads as next
 
 pub next_cluster_determines : OneResult 3 next-cluster-kinds.ps next-cluster-kinds.r next_cluster.Post
 next_cluster_determines κs a z z' e e' p q = p ∙ sym q
@@ -73,16 +79,23 @@ first_determines rest s (Some x) None t t' e f = absurd (omega (arith, ap length
 first_determines {S} {A} rest s (Some x) (Some y) t t' e f = let m = sym e ∙ f in (ap (λ (l : List A). Some (get_or l 0 x)) m, ap (drop 1) m)
 
 -- Any two walks that the contract of `all_clusters` allows have the same clusters left,
-pub all_clusters_determines : (ps : List Cluster) (w w' : Clusters) → clusters_left w ≡ ps → clusters_left w' ≡ ps → clusters_left w ≡ clusters_left w'
-all_clusters_determines ps w w' e f = e ∙ sym f
+pub all_clusters_determines : OneSeen 1 all-clusters-kinds.ps all-clusters-kinds.r all-clusters.Post (List Cluster) (λ κs z. clusters_left z)
+all_clusters_determines κs a z z' e e' p q = p.1 ∙ sym q.1
 
 -- and any two answers that the contract of `next` allows for a walk are equal, and leave the same clusters.
-pub next_determines : (w : Clusters) (o o' : Option Cluster) (v v' : Clusters) → YieldsFirst clusters_left w o v → YieldsFirst clusters_left w o' v' → (o ≡ o') × (clusters_left v ≡ clusters_left v')
-next_determines w o o' v v' e f = first_determines clusters_left w o o' v v' e f
+pub next_determines : OneResult 2 next-kinds.ps next-kinds.r next.Post × OneLeft 2 next-kinds.ps next-kinds.r next.Post (List Cluster) (λ κs e. clusters_left e.0.now)
+next_determines = (
+  λ κs a z z' e e' p q. (first_determines clusters_left a.0.now z z' e.0.now e'.0.now p.0 q.0).0,
+  λ κs a z z' e e' p q. (first_determines clusters_left a.0.now z z' e.0.now e'.0.now p.0 q.0).1,
+)
 
 -- The same of walks over entries in merged order.
-pub merged_from_determines : (is : List Item) (w w' : Merged) → items_left w ≡ is → items_left w' ≡ is → items_left w ≡ items_left w'
-merged_from_determines is w w' e f = e ∙ sym f
+pub merged_from_determines : OneSeen 1 merged-from-kinds.ps merged-from-kinds.r merged_from.Post (List Item) (λ κs z. items_left z)
+merged_from_determines κs a z z' e e' p q = p.1 ∙ sym q.1
 
-pub next_merged_determines : (w : Merged) (o o' : Option Item) (v v' : Merged) → YieldsFirst items_left w o v → YieldsFirst items_left w o' v' → (o ≡ o') × (items_left v ≡ items_left v')
-next_merged_determines w o o' v v' e f = first_determines items_left w o o' v v' e f
+pub next_merged_determines : OneResult 2 next-merged-kinds.ps next-merged-kinds.r next-merged.Post
+    × OneLeft 2 next-merged-kinds.ps next-merged-kinds.r next-merged.Post (List Item) (λ κs e. items_left e.0.now)
+next_merged_determines = (
+  λ κs a z z' e e' p q. (first_determines items_left a.0.now z z' e.0.now e'.0.now p.0 q.0).0,
+  λ κs a z z' e e' p q. (first_determines items_left a.0.now z z' e.0.now e'.0.now p.0 q.0).1,
+)

@@ -11,7 +11,7 @@ use Rattle.std.proofs.Common.{Option, None, Some}
 use Rattle.std.specs.Iterator.{YieldsFirstRef}
 use Rattle.vcf.specs.declared.lines.Lines.{Lines}
 use Rattle.vcf.specs.Lines.{lines_left}
-use Rattle.bases.proofs.Determines.{OneResult, OneSeen}
+use Rattle.bases.proofs.Determines.{OneResult, OneSeen, OneLeft}
 use Rattle.vcf.proofs.entry.Part.bytes.Kinds as part-bytes-kinds
 use Rattle.vcf.proofs.entry.Part.bytes.Reads as part-bytes
 use Rattle.vcf.proofs.entry.Entry.last_alt.Kinds as last-alt-kinds
@@ -30,6 +30,8 @@ use Rattle.vcf.proofs.entry.records_at.Kinds as records-at-kinds
 use Rattle.vcf.proofs.entry.records_at.Reads as records-at
 use Rattle.vcf.proofs.lines.lines_of.Kinds as lines-of-kinds
 use Rattle.vcf.proofs.lines.lines_of.Reads as lines-of
+use Rattle.vcf.proofs.lines.LinesIterator.next.Kinds as next-lines-kinds
+use Rattle.vcf.proofs.lines.LinesIterator.next.Reads as next-lines
 use Rattle.vcf.proofs.list.judge.Kinds as judge-kinds
 use Rattle.vcf.proofs.list.judge.Reads as judge
 
@@ -68,12 +70,20 @@ abbrev pub bytes_given : Option (Bor (List ℕ)) → Option (List ℕ)
 bytes_given None = None
 bytes_given (Some x) = Some x.now
 
--- Any two lines that the contract of `next` allows for a walk have the same bytes, and leave the same lines.
-pub next_lines_determines : (w : Lines) (o o' : Option (Bor (List ℕ))) (v v' : Lines)
+-- Two answers of an iterator that lends what it gives, at one list of what is left, have the same bytes, and leave the same.
+pub first_given : (w : Lines) (o o' : Option (Bor (List ℕ))) (v v' : Lines)
     → YieldsFirstRef lines_left w o v → YieldsFirstRef lines_left w o' v'
     → (bytes_given o ≡ bytes_given o') × (lines_left v ≡ lines_left v')
-next_lines_determines w None None v v' e f = (refl, e.1 ∙ sym f.1)
-next_lines_determines w None (Some y) v v' e f = absurd (omega (arith, ap length (sym e.0 ∙ f)))
-next_lines_determines w (Some x) None v v' e f = absurd (omega (arith, ap length (sym f.0 ∙ e)))
-next_lines_determines w (Some x) (Some y) v v' e f =
+first_given w None None v v' e f = (refl, e.1 ∙ sym f.1)
+first_given w None (Some y) v v' e f = absurd (omega (arith, ap length (sym e.0 ∙ f)))
+first_given w (Some x) None v v' e f = absurd (omega (arith, ap length (sym f.0 ∙ e)))
+first_given w (Some x) (Some y) v v' e f =
     let m = sym e ∙ f in (ap (λ (l : List (List ℕ)). Some (get_or l 0 x.now)) m, ap (drop 1) m)
+
+-- Any two lines that the contract of `next` allows for a walk have the same bytes, and leave the same lines.
+pub next_lines_determines : OneSeen 2 next-lines-kinds.ps next-lines-kinds.r next-lines.Post (Option (List ℕ)) (λ κs z. bytes_given z)
+    × OneLeft 2 next-lines-kinds.ps next-lines-kinds.r next-lines.Post (List (List ℕ)) (λ κs e. lines_left e.0.now)
+next_lines_determines = (
+  λ κs a z z' e e' p q. (first_given a.0.now z z' e.0.now e'.0.now p.0 q.0).0,
+  λ κs a z z' e e' p q. (first_given a.0.now z z' e.0.now e'.0.now p.0 q.0).1,
+)
