@@ -40,6 +40,10 @@ use Rattle.clusters.proofs.plan.all_clusters.Kinds as all-clusters-kinds
 use Rattle.clusters.proofs.plan.all_clusters.Reads as all-clusters
 use Rattle.clusters.proofs.plan.ClustersIterator.next.Kinds as next-kinds
 use Rattle.clusters.proofs.plan.ClustersIterator.next.Reads as next
+use Rattle.clusters.proofs.plan.first_walk.Kinds as first-walk-kinds
+use Rattle.clusters.proofs.plan.first_walk.Reads as first_walk
+use Rattle.clusters.proofs.plan.next_walk.Kinds as next-walk-kinds
+use Rattle.clusters.proofs.plan.next_walk.Reads as next-walk
 
 pub next_cluster_determines : OneResult 3 next-cluster-kinds.ps next-cluster-kinds.r next_cluster.Post
 next_cluster_determines κs a z z' e e' p q = p ∙ sym q
@@ -70,6 +74,12 @@ start_heads_determines κs a z z' e e' p q = p ∙ sym q
 
 pub size_of_determines : OneResult 0 size-of-kinds.ps size-of-kinds.r type_size.Post
 size_of_determines κs a z z' e e' p q = p ∙ sym q
+
+pub first_walk_determines : OneResult 3 first-walk-kinds.ps first-walk-kinds.r first_walk.Post
+first_walk_determines κs a z z' e e' p q = p ∙ sym q
+
+pub next_walk_determines : OneResult 3 next-walk-kinds.ps next-walk-kinds.r next-walk.Post
+next_walk_determines κs a z z' e e' p q = p ∙ sym q
 
 -- Two answers of an iterator at one list of what is left are equal, and leave the same.
 pub first_determines : {S A : Type 0} (rest : S → List A) (s : S) (o o' : Option A) (t t' : S) → YieldsFirst rest s o t → YieldsFirst rest s o' t' → (o ≡ o') × (rest t ≡ rest t')

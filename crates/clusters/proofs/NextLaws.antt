@@ -6,8 +6,10 @@
 --     ready_passed, ready_found     it stays so behind the next entries, and behind the next cluster
 --     next_done, next_plan          where no record is left there is no cluster; else there is the next one, and those behind it
 --     records_done, records_next    the same of the plan's records
+--     walk_none, walk_found         the step of the walk where no record is left, and where one is
+--     walk_done                     a step says whether one is left
 -- Assumes nothing.
-use mathlib.Core.Bool.{Bool, true, false}
+use mathlib.Core.Bool.{Bool, true, false, not}
 use mathlib.Core.List.{List, [], ◌∷◌, map}
 use mathlib.Core.Path.{◌≡◌, refl, sym, ap, ◌∙◌}
 use Prim.Native.Nat.{ℕ, zero, suc, ◌+◌, ◌-◌, ◌≤◌, ◌<◌, ◌^◌}
@@ -19,12 +21,15 @@ use Rattle.vcf.specs.Entry.{records_at}
 use Rattle.vcf.specs.List.{judge_text}
 use Rattle.vcf.proofs.AcceptedLaws.{accepted_records, readable_records}
 use Rattle.vcf.proofs.JudgeLaws.{accepted_zero, text_fits}
+use Rattle.clusters.specs.declared.cluster.Found.{Found}
 use Rattle.clusters.specs.declared.gap.Current.{Current}
 use Rattle.clusters.specs.declared.heads.Heads.{Heads}
+use Rattle.clusters.specs.declared.plan.Walk.{Walk}
 use Rattle.clusters.specs.Gap.{size_of, more, begin, cut?}
 use Rattle.clusters.specs.Heads.{ReadyAt, Ready, start_heads, items_from, done?, next_item, moved, passed, variants_from, first_count, found_at}
 use Rattle.clusters.specs.Item.{variant}
 use Rattle.clusters.specs.Plan.{first_of, plan, records_from, card_plan}
+use Rattle.clusters.specs.Walk.{walk_from}
 use Rattle.clusters.proofs.CardClusters.{map_length}
 use Rattle.clusters.proofs.FirstLaws.{left, first_none, first_cut, first_more, first_plan, plan_step}
 use Rattle.clusters.proofs.HeadsLaws.{items_none, items_step, items_few, ready_moved, passed_items}
@@ -89,6 +94,21 @@ module _ (reference first second : List ℕ) where
     pub records_done : (i : ℕ) → done? first second h ≡ true → records_from i (card_plan reference (variants_from reference first second h)) ≡ []
     unfolding records_from
     records_done i e = rw (next_done e)
+
+    pub walk_none : (i : ℕ) → done? first second h ≡ true → record { more = false; cluster = record { first = i; count = 0 }; heads = h } ≡ walk_from reference first second i h
+    unfolding passed
+    walk_none i e = rw (e, next_done e)
+
+    pub walk_found : (i : ℕ) → done? first second h ≡ false → (f : Found) → f ≡ found_at reference first second h
+        → record { more = true; cluster = record { first = i; count = f.count }; heads = f.heads } ≡ walk_from reference first second i h
+    walk_found i e f k = rw (k, e)
+
+    pub walk_done : (i : ℕ) (w : Walk) → w ≡ walk_from reference first second i h → done? first second h ≡ not w.more
+    walk_done i w e = rw e (go (done? first second h))
+      where
+        go : (t : Bool) → t ≡ not (not t)
+        go true = refl
+        go false = refl
 
     module _ (e : done? first second h ≡ false) where
       abbrev x : Variant

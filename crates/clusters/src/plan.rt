@@ -1,11 +1,12 @@
 // The plan: a lent slice of small records, one a cluster. A walk finds the records; only `fill_plan` and `is_plan` touch the slice.
-ghost use Rattle.std.specs.Prelude.{◌≡◌, ◌≤◌, length};
+ghost use Rattle.std.specs.Prelude.{◌≡◌, ◌+◌, ◌≤◌, ◌<◌, ◌^◌, length};
 ghost use Rattle.std.specs.Iterator.{YieldsFirst, item_count};
 ghost use Rattle.bases.specs.Letter.{bases_of};
 ghost use Rattle.bases.specs.Put.{put};
+ghost use Rattle.clusters.specs.Heads.{Ready, start_heads, items_from};
 ghost use Rattle.clusters.specs.Lent.{is_plan?};
 ghost use Rattle.clusters.specs.Plan.{plan_of};
-ghost use Rattle.clusters.specs.Walk.{Walks, clusters_left};
+ghost use Rattle.clusters.specs.Walk.{walk_from, first_walk, next_walk, Walks, clusters_left};
 
 use crate::cluster::next_cluster;
 use crate::heads::{Heads, is_done, start_heads};
@@ -19,12 +20,65 @@ pub struct Cluster {
     pub count: u32,
 }
 
+// A step of the walk from cluster to cluster: is there a cluster, its record, and the cursors behind it.
+#[derive(Clone, Copy)]
+pub struct Walk {
+    pub more: bool,
+    pub cluster: Cluster,
+    pub heads: Heads,
+}
+
 // A walk over the clusters of two lists from two cursors on; `entry` is the number of the next entry in merged order.
 #[derive(Clone, Copy)]
 pub struct Clusters<'a> {
     lists: Lists<'a>,
     heads: Heads,
     entry: u32,
+}
+
+// The step at the cursors, whose next entry is entry `i`. Where none is left, the record has no entry and the cursors stay.
+fn walk_from(reference: &[u8], first: &[u8], second: &[u8], i: u32, heads: Heads) -> Walk
+    requires { Ready (bases_of reference.now) first.now second.now heads
+        × (i + length (items_from first.now second.now heads) < 2 ^ 32) }
+    ensures { result ≡ walk_from (bases_of reference.now) first.now second.now i heads }
+{
+    if is_done(first, second, heads) {
+        return Walk {
+            more: false,
+            cluster: Cluster { first: i, count: 0 },
+            heads,
+        };
+    }
+    let found = next_cluster(reference, first, second, heads);
+    let count = found.count as u32;
+    Walk {
+        more: true,
+        cluster: Cluster { first: i, count },
+        heads: found.heads,
+    }
+}
+
+// The first step.
+pub fn first_walk(reference: &[u8], first: &[u8], second: &[u8]) -> Walk
+    requires { Ready (bases_of reference.now) first.now second.now (start_heads first.now second.now) }
+    ensures { result ≡ first_walk (bases_of reference.now) first.now second.now }
+{
+    walk_from(reference, first, second, 0, start_heads(first, second))
+}
+
+// The step behind one.
+pub fn next_walk(reference: &[u8], first: &[u8], second: &[u8], walk: Walk) -> Walk
+    requires { Ready (bases_of reference.now) first.now second.now walk.heads
+        × (walk.cluster.first + walk.cluster.count + length (items_from first.now second.now walk.heads) < 2 ^ 32) }
+    ensures { result ≡ next_walk (bases_of reference.now) first.now second.now walk }
+{
+    walk_from(
+        reference,
+        first,
+        second,
+        walk.cluster.first + walk.cluster.count,
+        walk.heads,
+    )
 }
 
 // A walk over all clusters of two lists.
@@ -49,20 +103,18 @@ impl<'a> Iterator for Clusters<'a> {
     ghost remaining = { item_count clusters_left };
 
     fn next(&mut self) -> Option<Cluster> {
-        if is_done(self.lists.first, self.lists.second, self.heads) {
-            return None;
-        }
-        let found = next_cluster(
+        let walk = walk_from(
             self.lists.reference,
             self.lists.first,
             self.lists.second,
+            self.entry,
             self.heads,
         );
-        let cluster = Cluster {
-            first: self.entry,
-            count: found.count as u32,
-        };
-        self.heads = found.heads;
+        if !walk.more {
+            return None;
+        }
+        let cluster = walk.cluster;
+        self.heads = walk.heads;
         self.entry += cluster.count;
         Some(cluster)
     }

@@ -5,20 +5,26 @@
 --     going_after       and behind an entry
 --     adds_next, nexts_fit
 --                       the sums with the next entry, and the numbers of the one behind it, can be written
---     listing_made      the next entry's record, and where the walk is behind it, put together
+--     listing_none      the step where no entry is left,
+--     listing_made      and where one is, put together
+--     listing_done, listing_next
+--                       a step says whether one is left; where one is, it has its record, and where the walk is behind it
 -- Assumes nothing.
-use mathlib.Core.Bool.{Bool, true, false}
+use mathlib.Core.Bool.{Bool, true, false, not}
 use mathlib.Core.List.{List}
 use mathlib.Core.Path.{◌≡◌, refl, sym, ap, ◌∙◌}
 use Prim.Native.Nat.{ℕ, zero, suc, ◌+◌, ◌-◌, ◌≤◌, ◌<◌, ◌^◌}
 use native.Mathlib.Omega.{arith}
 use lib.ListN.{length}
+use Rattle.bases.specs.Pick.{pick}
 use Rattle.bases.proofs.TestLaws.{of_false}
 use Rattle.vcf.proofs.AboveLaws.{above_few}
 use Rattle.clusters.specs.declared.gap.Current.{Current}
 use Rattle.clusters.specs.declared.gap.Size.{Size}
 use Rattle.clusters.specs.declared.heads.Heads.{Heads}
 use Rattle.clusters.specs.declared.item.Item.{Item}
+use Rattle.listed.specs.declared.listed.Listed.{Listed}
+use Rattle.listed.specs.declared.listed.Listing.{Listing}
 use Rattle.listed.specs.declared.listed.Nexts.{Nexts}
 use Rattle.listed.specs.declared.listed.Stand.{Stand}
 use Rattle.marks.specs.Counts.{one}
@@ -26,7 +32,7 @@ use Rattle.clusters.specs.Gap.{Adds, nothing, cut?, Kept}
 use Rattle.clusters.specs.Heads.{Ready, start_heads, done?, next_item, moved}
 use Rattle.clusters.specs.Item.{item_size}
 use Rattle.listed.specs.Listed.{next_of, nexts_after, listed_as}
-use Rattle.listed.specs.Listing.{grown, passed_by, start_stand, Going, cut_at?, begun_at, stand_after, listed_at}
+use Rattle.listed.specs.Listing.{grown, passed_by, not_listed, start_stand, Going, cut_at?, begun_at, stand_after, listed_at, listing_from}
 use Rattle.clusters.proofs.HeadsLaws.{items_step, items_few, ready_moved, next_sound}
 use Rattle.listed.proofs.NumberLaws.{cut_nothing}
 use Rattle.clusters.proofs.WalkLaws.{kept_more, size_small}
@@ -57,6 +63,22 @@ module _ (reference first second : List ℕ) where
     none = λ e. refl;
     kept = kept_nothing reference 0;
   }
+
+  module _ (s : Stand) where
+    pub listing_none : done? first second s.heads ≡ true → record { more = false; listed = not_listed; behind = s } ≡ listing_from reference first second s
+    listing_none e = rw e
+
+    pub listing_done : (w : Listing) → w ≡ listing_from reference first second s → done? first second s.heads ≡ not w.more
+    listing_done w e = rw e (go (done? first second s.heads))
+      where
+        go : (t : Bool) → t ≡ not (pick {A = Listing} t (record { more = false; listed = not_listed; behind = s })
+            (record { more = true; listed = listed_at reference first second s; behind = stand_after reference first second s })).more
+        go true = refl
+        go false = refl
+
+    pub listing_next : (w : Listing) → w ≡ listing_from reference first second s → done? first second s.heads ≡ false
+        → (w.listed ≡ listed_at reference first second s) × (w.behind ≡ stand_after reference first second s)
+    listing_next w e d = (rw (e, d), rw (e, d))
 
   module _ (s : Stand) (g : Going reference first second s) where
     pub begun_some : 1 ≤ begun_at reference first second s
@@ -112,9 +134,8 @@ module _ (reference first second : List ℕ) where
             kept = rw p (kept_after (cut_at? reference first second s));
           }
 
-      pub listing_made : {i : Item} {z : Size} {cut : Bool} {b : ℕ} {h : Heads} {n : Nexts} {c : Current}
-          → i ≡ next → z ≡ item_size i → cut ≡ cut? reference s.current z.start → b ≡ one cut
-          → h ≡ moved first second s.heads i.side → n ≡ nexts_after s.nexts i.side → c ≡ grown s.current z cut
-          → (listed_as s.nexts i.side (s.begun + b - 1) ≡ listed_at reference first second s)
-          × ◌≡◌ {A = Stand} record { heads = h; nexts = n; current = c; begun = s.begun + b } (stand_after reference first second s)
-      listing_made ei ez et eb eh en ec = (rw (eb, et, ez, ei), rw (eh, en, ec, eb, et, ez, ei))
+      pub listing_made : {i : Item} {z : Size} {cut : Bool} {b : ℕ} {l : Listed} {h : Heads} {n : Nexts} {c : Current}
+          → i ≡ next → z ≡ item_size i → cut ≡ cut? reference s.current z.start → b ≡ s.begun + one cut
+          → l ≡ listed_as s.nexts i.side (b - 1) → h ≡ moved first second s.heads i.side → n ≡ nexts_after s.nexts i.side → c ≡ grown s.current z cut
+          → record { more = true; listed = l; behind = record { heads = h; nexts = n; current = c; begun = b } } ≡ listing_from reference first second s
+      listing_made ei ez et eb el eh en ec = rw (e, el, eh, en, ec, eb, et, ez, ei)

@@ -1,7 +1,8 @@
--- The walk from entry to entry over two texts: the records of the entries that are left, and where the walk is behind the next. Before the
--- first entry there is no cluster, and the gap rule cuts there: so each entry's cluster is the last that has begun.
+-- The walk from entry to entry over two texts: each step has the next entry's record, and where the walk is behind it; and the records of
+-- the entries that are left. Before the first entry there is no cluster, and the gap rule cuts there: so each entry's cluster is the last
+-- that has begun.
 -- Assumes nothing: these are definitions.
-use Rattle.std.specs.Prelude.{Bool, List, [], ◌∷◌, ◌≡◌, ℕ, ◌+◌, ◌-◌, ◌≤◌, length}
+use Rattle.std.specs.Prelude.{Bool, true, false, List, [], ◌∷◌, ◌≡◌, ℕ, ◌+◌, ◌-◌, ◌≤◌, length}
 use Rattle.bases.specs.Letter.{bases_of}
 use Rattle.bases.specs.Pick.{pick}
 use Rattle.donors.specs.Choice.{card_rules}
@@ -10,11 +11,12 @@ use Rattle.clusters.specs.declared.gap.Current.{Current}
 use Rattle.clusters.specs.declared.gap.Size.{Size}
 use Rattle.listed.specs.declared.listed.Entries.{Entries}
 use Rattle.listed.specs.declared.listed.Listed.{Listed}
+use Rattle.listed.specs.declared.listed.Listing.{Listing}
 use Rattle.listed.specs.declared.listed.Nexts.{Nexts}
 use Rattle.listed.specs.declared.listed.Stand.{Stand}
 use Rattle.marks.specs.Counts.{one}
 use Rattle.clusters.specs.Gap.{size_of, more, nothing, begin, cut?, Kept}
-use Rattle.clusters.specs.Heads.{Ready, start_heads, items_from, next_item, moved, variants_from}
+use Rattle.clusters.specs.Heads.{Ready, start_heads, items_from, done?, next_item, moved, variants_from}
 use Rattle.clusters.specs.Item.{item_size}
 use Rattle.listed.specs.Listed.{listed_as, nexts_after, listed_from, first_nexts}
 
@@ -76,6 +78,20 @@ module _ (reference first second : List ℕ) where
   -- The record of the next entry.
   abbrev pub listed_at : Stand → Listed
   listed_at s = listed_as s.nexts (next_item first second s.heads).side (begun_at s - 1)
+
+  -- The step there. Where no entry is left, it stays.
+  abbrev pub listing_from : Stand → Listing
+  listing_from s =
+      pick (done? first second s.heads) (record { more = false; listed = not_listed; behind = s })
+      (record { more = true; listed = listed_at s; behind = stand_after s })
+
+  -- The first step.
+  abbrev pub first_listing : Listing
+  first_listing = listing_from (start_stand first second)
+
+  -- The step behind one.
+  abbrev pub next_listing : Listing → Listing
+  next_listing w = listing_from w.behind
 
   -- The records of the entries from there on.
   abbrev pub listed_on : Stand → List Listed

@@ -7,9 +7,9 @@ ghost use Rattle.bases.specs.Put.{put};
 ghost use Rattle.vcf.specs.List.{longest_text};
 ghost use Rattle.marks.specs.Counts.{one};
 ghost use Rattle.clusters.specs.Gap.{Adds};
-ghost use Rattle.clusters.specs.Heads.{start_heads};
+ghost use Rattle.clusters.specs.Heads.{Ready, start_heads};
 ghost use Rattle.listed.specs.Listed.{list_number, next_of, one_on, nexts_after, listed_as, first_next, listed_of};
-ghost use Rattle.listed.specs.Listing.{grown, start_stand, Goes, entries_left};
+ghost use Rattle.listed.specs.Listing.{grown, Going, start_stand, listing_from, first_listing, next_listing, Goes, entries_left};
 ghost use Rattle.clusters.specs.Merged.{merged_items};
 
 use clusters::gap::{Current, Size, begin, is_cut, more, nothing};
@@ -50,6 +50,14 @@ pub struct Stand {
     pub nexts: Nexts,
     pub current: Current,
     pub begun: u32,
+}
+
+// A step of the walk: is there an entry, its record, and where the walk is behind it.
+#[derive(Clone, Copy)]
+pub struct Listing {
+    pub more: bool,
+    pub listed: Listed,
+    pub behind: Stand,
 }
 
 // A walk over the entries of two lists from where it stands on.
@@ -164,6 +172,55 @@ fn grown(current: Current, size: Size, cut: bool) -> Current
     }
 }
 
+// The step where the walk stands. Where no entry is left, it stays.
+fn listing_from(reference: &[u8], first: &[u8], second: &[u8], stand: Stand) -> Listing
+    requires { Going (bases_of reference.now) first.now second.now stand }
+    ensures { result ≡ listing_from (bases_of reference.now) first.now second.now stand }
+{
+    if is_done(first, second, stand.heads) {
+        return Listing {
+            more: false,
+            listed: Listed {
+                list: 0,
+                entry: 0,
+                line: 0,
+                cluster: 0,
+            },
+            behind: stand,
+        };
+    }
+    let item = next_item(first, second, stand.heads);
+    let size = size_of(item);
+    let cut = is_cut(reference, stand.current, size.start);
+    let begun = stand.begun + one(cut);
+    Listing {
+        more: true,
+        listed: listed_as(stand.nexts, item.side, begun - 1),
+        behind: Stand {
+            heads: after(first, second, stand.heads, item.side),
+            nexts: nexts_after(stand.nexts, item.side),
+            current: grown(stand.current, size, cut),
+            begun,
+        },
+    }
+}
+
+// The first step.
+pub fn first_listing(reference: &[u8], first: &[u8], second: &[u8]) -> Listing
+    requires { Ready (bases_of reference.now) first.now second.now (start_heads first.now second.now) }
+    ensures { result ≡ first_listing (bases_of reference.now) first.now second.now }
+{
+    listing_from(reference, first, second, start_stand(first, second))
+}
+
+// The step behind one.
+pub fn next_listing(reference: &[u8], first: &[u8], second: &[u8], listing: Listing) -> Listing
+    requires { Going (bases_of reference.now) first.now second.now listing.behind }
+    ensures { result ≡ next_listing (bases_of reference.now) first.now second.now listing }
+{
+    listing_from(reference, first, second, listing.behind)
+}
+
 // A walk over all entries of two lists, each read once.
 pub fn all_entries(lists: Lists) -> Entries
     ensures { Goes result
@@ -185,21 +242,17 @@ impl<'a> Iterator for Entries<'a> {
     ghost remaining = { item_count entries_left };
 
     fn next(&mut self) -> Option<Listed> {
-        let stand = self.stand;
-        if is_done(self.lists.first, self.lists.second, stand.heads) {
+        let listing = listing_from(
+            self.lists.reference,
+            self.lists.first,
+            self.lists.second,
+            self.stand,
+        );
+        if !listing.more {
             return None;
         }
-        let item = next_item(self.lists.first, self.lists.second, stand.heads);
-        let size = size_of(item);
-        let cut = is_cut(self.lists.reference, stand.current, size.start);
-        let begun = stand.begun + one(cut);
-        self.stand = Stand {
-            heads: after(self.lists.first, self.lists.second, stand.heads, item.side),
-            nexts: nexts_after(stand.nexts, item.side),
-            current: grown(stand.current, size, cut),
-            begun,
-        };
-        Some(listed_as(stand.nexts, item.side, begun - 1))
+        self.stand = listing.behind;
+        Some(listing.listed)
     }
 }
 
