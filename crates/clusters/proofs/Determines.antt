@@ -89,11 +89,13 @@ first_determines rest s (Some x) None t t' e f = absurd (omega (arith, ap length
 first_determines {S} {A} rest s (Some x) (Some y) t t' e f = let m = sym e ∙ f in (ap (λ (l : List A). Some (get_or l 0 x)) m, ap (drop 1) m)
 
 -- Any two walks that the contract of `all_clusters` allows have the same clusters left,
-pub all_clusters_determines : OneSeen 1 all-clusters-kinds.ps all-clusters-kinds.r all-clusters.Post (List Cluster) (λ κs z. clusters_left z)
+pub all_clusters_determines : OneSeen 1 all-clusters-kinds.ps all-clusters-kinds.r all-clusters.Post (List Cluster)
+    (λ κs z. clusters_left z)
 all_clusters_determines κs a z z' e e' p q = p.1 ∙ sym q.1
 
 -- and any two answers that the contract of `next` allows for a walk are equal, and leave the same clusters.
-pub next_determines : OneResult 2 next-kinds.ps next-kinds.r next.Post × OneLeft 2 next-kinds.ps next-kinds.r next.Post (List Cluster) (λ κs e. clusters_left e.0.now)
+pub next_determines : OneResult 2 next-kinds.ps next-kinds.r next.Post
+    × OneLeft 2 next-kinds.ps next-kinds.r next.Post (List Cluster) (λ κs e. clusters_left e.0.now)
 next_determines = (
   λ κs a z z' e e' p q. (first_determines clusters_left a.0.now z z' e.0.now e'.0.now p.0 q.0).0,
   λ κs a z z' e e' p q. (first_determines clusters_left a.0.now z z' e.0.now e'.0.now p.0 q.0).1,

@@ -95,7 +95,8 @@ module _ (reference first second : List ℕ) where
     unfolding records_from
     records_done i e = rw (next_done e)
 
-    pub walk_none : (i : ℕ) → done? first second h ≡ true → record { more = false; cluster = record { first = i; count = 0 }; heads = h } ≡ walk_from reference first second i h
+    pub walk_none : (i : ℕ) → done? first second h ≡ true
+        → record { more = false; cluster = record { first = i; count = 0 }; heads = h } ≡ walk_from reference first second i h
     unfolding passed
     walk_none i e = rw (e, next_done e)
 

@@ -32,7 +32,8 @@ pub all_entries_determines : OneSeen 1 all-entries-kinds.ps all-entries-kinds.r 
 all_entries_determines κs a z z' e e' p q = p.1 ∙ sym q.1
 
 -- and any two answers that the contract of `next` allows for a walk are equal, and leave the same entries.
-pub next_determines : OneResult 2 next-kinds.ps next-kinds.r next.Post × OneLeft 2 next-kinds.ps next-kinds.r next.Post (List Listed) (λ κs e. entries_left e.0.now)
+pub next_determines : OneResult 2 next-kinds.ps next-kinds.r next.Post
+    × OneLeft 2 next-kinds.ps next-kinds.r next.Post (List Listed) (λ κs e. entries_left e.0.now)
 next_determines = (
   λ κs a z z' e e' p q. (first_determines entries_left a.0.now z z' e.0.now e'.0.now p.0 q.0).0,
   λ κs a z z' e e' p q. (first_determines entries_left a.0.now z z' e.0.now e'.0.now p.0 q.0).1,

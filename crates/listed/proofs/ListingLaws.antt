@@ -65,7 +65,8 @@ module _ (reference first second : List ℕ) where
   }
 
   module _ (s : Stand) where
-    pub listing_none : done? first second s.heads ≡ true → record { more = false; listed = not_listed; behind = s } ≡ listing_from reference first second s
+    pub listing_none : done? first second s.heads ≡ true
+        → record { more = false; listed = not_listed; behind = s } ≡ listing_from reference first second s
     listing_none e = rw e
 
     pub listing_done : (w : Listing) → w ≡ listing_from reference first second s → done? first second s.heads ≡ not w.more
@@ -136,6 +137,8 @@ module _ (reference first second : List ℕ) where
 
       pub listing_made : {i : Item} {z : Size} {cut : Bool} {b : ℕ} {l : Listed} {h : Heads} {n : Nexts} {c : Current}
           → i ≡ next → z ≡ item_size i → cut ≡ cut? reference s.current z.start → b ≡ s.begun + one cut
-          → l ≡ listed_as s.nexts i.side (b - 1) → h ≡ moved first second s.heads i.side → n ≡ nexts_after s.nexts i.side → c ≡ grown s.current z cut
-          → record { more = true; listed = l; behind = record { heads = h; nexts = n; current = c; begun = b } } ≡ listing_from reference first second s
+          → l ≡ listed_as s.nexts i.side (b - 1) → h ≡ moved first second s.heads i.side → n ≡ nexts_after s.nexts i.side
+          → c ≡ grown s.current z cut
+          → record { more = true; listed = l; behind = record { heads = h; nexts = n; current = c; begun = b } }
+          ≡ listing_from reference first second s
       listing_made ei ez et eb el eh en ec = rw (e, el, eh, en, ec, eb, et, ez, ei)

@@ -70,7 +70,7 @@ abbrev pub bytes_given : Option (Bor (List ℕ)) → Option (List ℕ)
 bytes_given None = None
 bytes_given (Some x) = Some x.now
 
--- Two answers of an iterator that lends what it gives, at one list of what is left, have the same bytes, and leave the same.
+-- Two answers of a walk at the same lines have the same bytes, and leave the same lines.
 pub first_given : (w : Lines) (o o' : Option (Bor (List ℕ))) (v v' : Lines)
     → YieldsFirstRef lines_left w o v → YieldsFirstRef lines_left w o' v'
     → (bytes_given o ≡ bytes_given o') × (lines_left v ≡ lines_left v')

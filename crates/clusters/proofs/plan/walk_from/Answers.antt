@@ -10,7 +10,8 @@ use Rattle.clusters.proofs.plan.walk_from.Goals as goal
 
 pub returns-then-is_done : goal.returns-then-is_done
 returns-then-is_done c =
-    walk_none (bases_of c.args.reference.now) c.args.first.now c.args.second.now c.args.heads c.args.i (sym c.is_done.ensures ∙ c.if-is_done.true)
+    walk_none (bases_of c.args.reference.now) c.args.first.now c.args.second.now c.args.heads c.args.i
+    (sym c.is_done.ensures ∙ c.if-is_done.true)
 
 pub next_cluster-found-requires : goal.next_cluster-found-requires
 next_cluster-found-requires c = (sym c.is_done.ensures ∙ c.if-is_done.false, c.requires.0)

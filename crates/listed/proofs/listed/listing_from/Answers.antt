@@ -47,7 +47,8 @@ is_cut-cut-requires c =
     let d : done? t1 t2 s.heads ≡ false = sym c.is_done.ensures ∙ c.if-is_done.false in
     let g = c.requires in
     let n = next_sound r t1 t2 s.heads g.ready d in
-    let e : c.size_of-size.result ≡ item_size (next_item t1 t2 s.heads) = c.size_of-size.ensures ∙ ap item_size c.next_item-item.ensures in (
+    let e : c.size_of-size.result ≡ item_size (next_item t1 t2 s.heads) =
+    c.size_of-size.ensures ∙ ap item_size c.next_item-item.ensures in (
       omega (arith, n.within, ap (λ (z : Size). z.start.0) e),
       omega (arith, g.few, g.kept.small1, g.kept.small2, g.ready.ready1.short, g.ready.ready2.short),
       omega (arith, g.few, g.kept.small1, g.kept.small2, g.ready.ready1.short, g.ready.ready2.short),

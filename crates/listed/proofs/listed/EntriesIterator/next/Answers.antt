@@ -38,6 +38,7 @@ returns-clause-goes c =
     let d : done? w.lists.first.now w.lists.second.now w.stand.heads ≡ false =
     listing_done r w.lists.first.now w.lists.second.now w.stand l.result l.ensures ∙ c.if-not-listing.false in
     let m = listing_next r w.lists.first.now w.lists.second.now w.stand l.result l.ensures d in
-    let goes = subst (λ (v : Stand). Going r w.lists.first.now w.lists.second.now v) (sym m.1) (going_after r w.lists.first.now w.lists.second.now w.stand c.requires d) in
+    let after = going_after r w.lists.first.now w.lists.second.now w.stand c.requires d in
+    let goes = subst (λ (v : Stand). Going r w.lists.first.now w.lists.second.now v) (sym m.1) after in
     let steps = returns-clause-steps c in
     search rules
