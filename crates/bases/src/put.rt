@@ -18,9 +18,10 @@ impl<'a> Writer<'a> {
         requires { HasRoom self.old (length bytes.now) }
         ensures { Wrote self.old bytes.now self.new }
     {
-        let end = self.at + bytes.len();
-        self.room[self.at..end].copy_from_slice(bytes);
-        self.at = end;
+        for (i, byte) in bytes.iter().enumerate() {
+            self.room[self.at + i] = *byte;
+        }
+        self.at += bytes.len();
     }
 
     // Writes the bases that the bytes spell, in upper case.

@@ -12,6 +12,7 @@ pub mod HeaderLaws
 pub mod LinePartLaws
 pub mod LineReadLaws
 pub mod MoveLaws
+pub mod MovedLaws
 pub mod NewAlleles
 pub mod NewOrderLaws
 pub mod OrderLaws
