@@ -1,9 +1,9 @@
 -- `bases::put::Writer::bytes` meets its contract: one byte more stands behind those before it. Assumes nothing.
-use mathlib.Core.Path.{◌≡◌, ap, ◌∙◌}
+use mathlib.Core.Path.{◌∙◌}
 use Prim.Native.Nat.{◌+◌}
 use native.Mathlib.Numerals.{add-one}
 use native.Mathlib.Omega.{arith}
-use lib.ListN.{length, get_or, length-set}
+use lib.ListN.{get_or, length-set}
 use lib.Seq.{paste-suc}
 use Rattle.bases.proofs.put.Writer.bytes.Goals as goal
 
