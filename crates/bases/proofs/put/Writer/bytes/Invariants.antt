@@ -1,5 +1,5 @@
--- `bases::put::Writer::bytes` meets its contract. The loop's invariant: the first i bytes stand from where the writer stands on, and nothing else
--- has changed. Assumes nothing.
+-- `bases::put::Writer::bytes` meets its contract. The loop's invariant: the first i bytes stand from where the writer stands on, and
+-- nothing else has changed. Assumes nothing.
 use mathlib.Core.Path.{◌≡◌}
 use lib.ListN.{length}
 use lib.Seq.{paste}
