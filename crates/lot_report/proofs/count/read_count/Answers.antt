@@ -25,7 +25,8 @@ loop-byte-preserved c = let f = c.args.field.now in
     let n = c.saturating_add-value.result in
     let d = get_or f i 0 - 48 in
     let e : n ≡ min (v * 10 + d) largest_count = omega (arith, c.saturating_add-value.ensures, c.saturating_mul.ensures, c.from.ensures) in
-    (omega arith, (digits_here f i (omega arith) c.loop-byte.invariant.1).1, capped_more (v * 10 + d) n (drop (i + 1) f) e ∙ ap capped (sym (value_more v f i (omega arith))) ∙ c.loop-byte.invariant.2)
+    let more = capped_more (v * 10 + d) n (drop (i + 1) f) e ∙ ap capped (sym (value_more v f i (omega arith))) ∙ c.loop-byte.invariant.2 in
+    (omega arith, (digits_here f i (omega arith) c.loop-byte.invariant.1).1, more)
 
 pub returns-then-value : goal.returns-then-value
 returns-then-value c = let f = c.args.field.now in
